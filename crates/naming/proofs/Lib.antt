@@ -1,0 +1,5 @@
+mod Copying
+pub mod Digits
+pub mod Orders
+pub mod Parts
+pub mod Same
