@@ -1,0 +1,4 @@
+-- What the contracts of this crate cite.
+pub mod Law
+pub mod Rows
+pub mod Search
