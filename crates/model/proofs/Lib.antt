@@ -1,0 +1,4 @@
+pub mod Chains
+pub mod Sounds
+pub mod Listings
+pub mod Rows
