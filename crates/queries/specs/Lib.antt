@@ -1,0 +1,4 @@
+-- What the contracts of this crate cite.
+pub mod Newest
+pub mod Reach
+pub mod Room
