@@ -1,0 +1,12 @@
+pub mod Sets
+pub mod Collections
+pub mod Cases
+pub mod Dues
+pub mod Standings
+pub mod Names
+pub mod Keeps
+pub mod Opens
+pub mod Counts
+pub mod Progress
+pub mod Single
+pub mod Worked

@@ -1,0 +1,9 @@
+pub mod State
+pub mod Calls
+pub mod Rows
+pub mod Rules
+pub mod Sound
+pub mod Promise
+pub mod Examples
+pub mod View
+pub mod Stands
