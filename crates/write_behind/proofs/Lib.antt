@@ -1,0 +1,4 @@
+mod Helds
+mod Drains
+mod Layers
+mod Orders
