@@ -1,0 +1,10 @@
+pub mod Backing
+pub mod Cuts
+pub mod Clears
+pub mod Listeds
+pub mod Steps
+pub mod Changes
+pub mod Enterings
+pub mod Layouts
+pub mod Takes
+pub mod Readings
