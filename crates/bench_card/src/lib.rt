@@ -1,4 +1,6 @@
 // The bench card: a disk on lent bytes whose power goes at an operation known beforehand.
+#![tactic(auto)]
+
 ghost use Rattle.std.specs.Prelude.{◌≡◌, ◌<◌};
 ghost use Rattle.bench_card.specs.Card.{CardBarrier, CardRestart, CardWrite, card_means, fresh, present_part, settled_part, spent, strikes};
 ghost use Rattle.disk.specs.Meaning.{Barrier, Restarted, Write};

@@ -1,4 +1,6 @@
 // The formats of the card's blocks: the label, and the entries of the journal.
+#![tactic(auto)]
+
 mod bytes;
 mod decoding;
 mod encoding;

@@ -1,4 +1,6 @@
 // Worked examples of the card's blocks, byte by byte, and blocks that are damaged.
+#![tactic(auto)]
+
 use naming::{Hash, Name};
 use records::{Entry, PathRecord, References};
 

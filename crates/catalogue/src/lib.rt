@@ -1,4 +1,6 @@
 // The catalogue: paths in registration order and three profiles, which entries fit it, and what they make of it.
+#![tactic(auto)]
+
 mod applying;
 mod catalogues;
 mod fitting;

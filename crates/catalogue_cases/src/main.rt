@@ -1,4 +1,6 @@
 // Tables of entries that fit a catalogue and that do not, each rule at its edge; closures, free runs, and listings made again.
+#![tactic(auto)]
+
 mod entries;
 mod listings;
 mod tables;

@@ -1,5 +1,7 @@
 // Damaged cards, and what load answers: done with the entries of the half in use and the paths that they make; or 1 for a dark card, 18 for a wrong size, 19 for
 // a bad label, 20 for a bad entry, with its block.
+#![tactic(auto)]
+
 mod answer;
 mod cards;
 mod damage;

@@ -1,4 +1,6 @@
 // Disks by their meaning: what a block holds, and what a power cut may leave it with.
+#![tactic(auto)]
+
 ghost use Rattle.disk.specs.Meaning.{Barrier, Meaning, Read, Restarted, Size, Sound, Write};
 
 mod image;

@@ -1,4 +1,5 @@
 // Tests of the disks: every cut of a short run, bad input, and one story told to its end.
+#![tactic(auto)]
 
 #[cfg(test)]
 mod cuts;

@@ -1,4 +1,6 @@
 // The journal over any disk: a card made new, entries appended, and what every power cut leaves.
+#![tactic(auto)]
+
 mod appending;
 mod formatting;
 mod place;

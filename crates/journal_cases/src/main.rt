@@ -1,5 +1,7 @@
 // Power cuts tried on the bench card, plain and under write-behind: every single cut of a run of entries that changes halves three times, and pairs of
 // cuts around changes of halves. What a restart finds has to be the catalogue before the entry that was cut, or the one after it.
+#![tactic(auto)]
+
 mod catalogues;
 mod cutting;
 mod scripts;

@@ -1,5 +1,7 @@
 // What any run of a store's calls must answer, whatever the power does: calls, answers and refusals, and in specs/ the rules and the law over runs.
 // Each function here has one consequence of the rules for its contract.
+#![tactic(auto)]
+
 ghost use Rattle.ledger.specs.Examples.{Examples};
 ghost use Rattle.ledger.specs.Promise.{FindsSealed, NeedsKept, OneAnswer, OpensDone, ReachesSound, ReadsSealed, SealsOnly, StepsAnswered, StepsCounted};
 

@@ -1,5 +1,6 @@
 // One task at a cutting table, told as it goes: the table's list, the catalogue of its programs, and what a power cut leaves of a block and of the
 // journal on a card.
+#![tactic(auto)]
 
 mod card;
 mod cuts;

@@ -1,5 +1,7 @@
 // The catalogue as plain data, in specs/: which entries fit, what they make, what a path needs, the listing that makes a catalogue again.
 // Each function here has one law of these definitions for its contract.
+#![tactic(auto)]
+
 ghost use Rattle.model.specs.Laws.{KeepsSound, ListingMakes, MakesSound, NeedsRegistered};
 
 // Nothing is sound, and every fitting entry keeps a catalogue sound.

@@ -1,4 +1,6 @@
 // Hashes with their hash parts, and names.
+#![tactic(auto)]
+
 mod base32;
 mod bits;
 mod compare;

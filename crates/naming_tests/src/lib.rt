@@ -1,4 +1,6 @@
 // Examples of hash parts and names: four of the definitions, by proof, and many of the code, by tests.
+#![tactic(auto)]
+
 ghost use Rattle.naming_tests.specs.Examples.{Examples};
 ghost use Rattle.std.specs.Prelude.{◌≡◌, true};
 

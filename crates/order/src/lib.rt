@@ -1,4 +1,6 @@
 // Orders that name the kind of element they compare, and one search for the greatest or the least element.
+#![tactic(auto)]
+
 ghost use Rattle.order.specs.Law.{Lawful};
 ghost use Rattle.order.specs.Rows.{Holds};
 ghost use Rattle.order.specs.Search.{Exceeds, Greatest};

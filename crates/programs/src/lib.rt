@@ -1,4 +1,6 @@
 // The programs of a cutting table, each by hash and name. They are ordered by hash.
+#![tactic(auto)]
+
 ghost use Rattle.naming.specs.Hash.{hash_part};
 ghost use Rattle.naming.specs.Name.{Lawful};
 ghost use Rattle.naming.specs.Order.{HashOrder};

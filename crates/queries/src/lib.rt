@@ -1,5 +1,7 @@
 // What is asked of a catalogue: which paths a path needs, where a new content may lie, which generation is the newest, and
 // which entries make it again.
+#![tactic(auto)]
+
 mod checkpoint;
 mod closing;
 mod freeing;

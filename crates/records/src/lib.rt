@@ -1,5 +1,7 @@
 // What a catalogue is made of: paths with their references and runs, generations and entries; how they are looked up; and
 // whether a path or a generation may follow others.
+#![tactic(auto)]
+
 mod committing;
 mod finding;
 mod listed;

@@ -1,4 +1,6 @@
 // A card read back over any disk: what its journal makes, and what is found again after a power cut.
+#![tactic(auto)]
+
 mod loading;
 mod recovering;
 

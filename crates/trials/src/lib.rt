@@ -1,4 +1,6 @@
 // Trials of what a power cut leaves, over any disk.
+#![tactic(auto)]
+
 ghost use Rattle.trials.specs.Tried.{Tried};
 
 use disk::{Disk, Fault};

@@ -1,4 +1,6 @@
 // Write-behind: a layer over any disk that holds up to sixteen blocks back.
+#![tactic(auto)]
+
 ghost use Rattle.disk.specs.Meaning.{Barrier, Restarted, Write};
 ghost use Rattle.std.specs.Prelude.{◌≡◌, [], MatchResult};
 ghost use Rattle.write_behind.specs.Behind.{Orderly, behind};
