@@ -1,8 +1,8 @@
 // A hash: 20 bytes.
 ghost use Rattle.std.specs.Prelude.{◌≡◌, ℕ, ◌<◌, length, Decides, slice_index};
+ghost use Rattle.std.specs.Str.{bytes_eq};
 ghost use Rattle.std.specs.Cmp.Rules.{comparing};
-ghost use Rattle.std.proofs.Common.{rules, arith};
-ghost use Rattle.std.specs.Cmp as Keys;
+ghost use Rattle.std.proofs.Common.{rules};
 
 #[derive(Clone, Copy)]
 pub struct Hash {
@@ -20,16 +20,19 @@ impl Hash {
     }
 }
 
-impl PartialEq<Hash> for Hash {
-    ghost equals = { λ x y r. Decides r (x ≡ y) };
+impl PartialEq for Hash {
+    ghost eq = { λ x y. bytes_eq x.bytes y.bytes };
 
-    ghost laws = { Keys.partial_equiv_from_equiv (first_of (Prim.search (comparing, rules), Prim.grind (arith, Self.row.coded.inj))) };
+    ghost laws = { Prim.search (comparing, rules) };
 
-    fn eq(&self, other: &Hash) -> bool {
+    fn eq(&self, other: &Hash) -> bool
+        ensures eq { result ≡ bytes_eq self.now.bytes other.now.bytes }
+        ensures same { Decides result (self.now ≡ other.now) }
+    {
         self.bytes == other.bytes
     }
 }
 
 impl Eq for Hash {
-    ghost laws = { first_of (Prim.search (comparing, rules), Prim.grind (arith, Self.row.coded.inj)) };
+    ghost laws = { Prim.search (comparing, rules) };
 }

@@ -5,16 +5,16 @@ use Rattle.card.proofs.Reading.{after_kind, byte_read}
 use Rattle.card.proofs.Saying.{no_path}
 use Rattle.card.proofs.decoding.decode_block.Goals as goal
 
-pub returns-in-err-decode-path : goal.returns-in-err-decode-path
-returns-in-err-decode-path c =
+pub returns-in_err-decode-path : goal.returns-in_err-decode-path
+returns-in_err-decode-path c =
     let block = c.args.block.now in
     subst (Decodes block) (sym c.from-residual.ensures)
-    (no_path block (byte_read block 0 (omega arith) ∙ c.in-1.is) (c.in-err-decode-path.ensures block (sym (take_rest block 1))))
+    (no_path block (byte_read block 0 (omega arith) ∙ c.in-1.is) (c.in_err-decode-path.ensures block (sym (take_rest block 1))))
 
-pub returns-in-ok-decode-path : goal.returns-in-ok-decode-path
-returns-in-ok-decode-path c =
+pub returns-in_ok-decode-path : goal.returns-in_ok-decode-path
+returns-in_ok-decode-path c =
     let block = c.args.block.now in
-    (byte_read block 0 (omega arith) ∙ c.in-1.is, c.in-ok-decode-path.ensures block (sym (take_rest block 1)))
+    (byte_read block 0 (omega arith) ∙ c.in-1.is, c.in_ok-decode-path.ensures block (sym (take_rest block 1)))
 
 pub returns-in-2 : goal.returns-in-2
 returns-in-2 c =

@@ -6,8 +6,8 @@ use Rattle.card.proofs.decoding.decode_path.Goals as goal
 pub returns : goal.returns
 returns c block is =
     let rest = c.args.rest.now in
-    let name = c.in-ok-name.ensures block is in
-    let refs = c.in-ok-refs.ensures block is in
+    let name = c.in_ok-name.ensures block is in
+    let refs = c.in_ok-refs.ensures block is in
     record {
       hash = sym (c.new.ensures ∙ c.bytes-at.ensures ∙ after_kind block rest is 0 20);
       name_length = name.long;

@@ -6,15 +6,15 @@ use Rattle.journal.proofs.appending.append_at.Goals as goal
 pub returns-then-at-lt64 : goal.returns-then-at-lt64
 returns-then-at-lt64 g c = enters_at_once _ (g.D.Disk.means c.enter.new.disk) _ _ _ c.enter.result c.enter.ensures
 
-pub returns-in-err-next : goal.returns-in-err-next
-returns-in-err-next g c =
+pub returns-in_err-next : goal.returns-in_err-next
+returns-in_err-next g c =
     let full : c.args.at.now.used ≡ 64 = omega (arith, c.if-at-lt64.false, c.args.at.now.room) in
     let numbered : c.args.at.now.first + 64 ≤ 2 ^ 62 - 128 = omega (arith, c.requires) in
     let p = err_from_is_err_and c.from-residual.result c.from-residual.ensures.1 in
-    rw (p.1, p.2) (change_fails _ _ _ _ full numbered _ _ c.in-err-next.ensures.law)
+    rw (p.1, p.2) (change_fails _ _ _ _ full numbered _ _ c.in_err-next.ensures.law)
 
 pub returns : goal.returns
 returns g c =
     let full : c.args.at.now.used ≡ 64 = omega (arith, c.if-at-lt64.false, c.args.at.now.room) in
     let numbered : c.args.at.now.first + 64 ≤ 2 ^ 62 - 128 = omega (arith, c.requires) in
-    then_enters _ _ _ _ full numbered (g.D.Disk.means c.change-halves.new.disk) (g.D.Disk.means c.enter-2.new.disk) c.in-ok-next.next c.enter-2.result c.in-ok-next.ensures.law c.enter-2.ensures
+    then_enters _ _ _ _ full numbered (g.D.Disk.means c.change-halves.new.disk) (g.D.Disk.means c.enter-2.new.disk) c.in_ok-next.next c.enter-2.result c.in_ok-next.ensures.law c.enter-2.ensures

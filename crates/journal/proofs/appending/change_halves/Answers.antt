@@ -3,25 +3,25 @@ use Rattle.std.proofs.lemmas.Result.{err_from_is_err_and}
 use Rattle.journal.proofs.Changes.{listing_fails, label_fails, label_stands}
 use Rattle.journal.proofs.appending.change_halves.Goals as goal
 
-pub returns-in-err-count : goal.returns-in-err-count
-returns-in-err-count g c =
+pub returns-in_err-count : goal.returns-in_err-count
+returns-in_err-count g c =
     let p = err_from_is_err_and c.from-residual.result c.from-residual.ensures.1 in
-    record { few = rw p.1 tt; law = rw (p.1, p.2) (listing_fails _ _ _ _ refl c.other.ensures _ _ c.in-err-count.ensures.law) }
+    record { few = rw p.1 tt; law = rw (p.1, p.2) (listing_fails _ _ _ _ refl c.other.ensures _ _ c.in_err-count.ensures.law) }
 
-pub returns-in-err-put-label : goal.returns-in-err-put-label
-returns-in-err-put-label g c =
-    let p = err_from_is_err_and c.from-residual-in-err-put-label.result c.from-residual-in-err-put-label.ensures.1 in
+pub returns-in_err-put-label : goal.returns-in_err-put-label
+returns-in_err-put-label g c =
+    let p = err_from_is_err_and c.from-residual-in_err-put-label.result c.from-residual-in_err-put-label.ensures.1 in
     record {
       few = rw p.1 tt;
-      law = rw (p.1, p.2) (label_fails _ _ _ _ refl c.other.ensures _ _ _ c.in-ok-count.ensures.few c.in-ok-count.ensures.law _ (rw c.blocks-2.ensures at c.in-err-put-label.ensures));
+      law = rw (p.1, p.2) (label_fails _ _ _ _ refl c.other.ensures _ _ _ c.in_ok-count.ensures.few c.in_ok-count.ensures.law _ (rw c.blocks-2.ensures at c.in_err-put-label.ensures));
     }
 
-pub invariant-of-next-2 : goal.invariant-of-next-2
-invariant-of-next-2 g c = (omega arith, (omega arith, (omega (arith, c.in-ok-count.ensures.few), tt)))
+pub invariant_of-next-2 : goal.invariant_of-next-2
+invariant_of-next-2 g c = (omega arith, (omega arith, (omega (arith, c.in_ok-count.ensures.few), tt)))
 
 pub returns : goal.returns
 returns g c =
     record {
-      few = c.in-ok-count.ensures.few;
-      law = label_stands _ _ _ _ refl c.other.ensures _ _ _ c.in-ok-count.ensures.few c.in-ok-count.ensures.law _ _ refl refl refl (rw c.blocks-2.ensures at c.in-ok-put-label.ensures);
+      few = c.in_ok-count.ensures.few;
+      law = label_stands _ _ _ _ refl c.other.ensures _ _ _ c.in_ok-count.ensures.few c.in_ok-count.ensures.law _ _ refl refl refl (rw c.blocks-2.ensures at c.in_ok-put-label.ensures);
     }

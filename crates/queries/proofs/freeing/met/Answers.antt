@@ -12,4 +12,4 @@ returns-in-Some-find c =
     met_building c.args.paths.now c.args.building.now (span_of c.args.run) c.in-Some-find.place (record { first = 0; count = 0 }) c.in-Some-find.ensures
 
 pub returns-in-None : goal.returns-in-None
-returns-in-None c = met_none c.args.paths.now c.args.building.now (span_of c.args.run) c.in-default.ensures c.in-None.ensures
+returns-in-None c = met_none c.args.paths.now c.args.building.now (span_of c.args.run) c.in_default.ensures c.in-None.ensures

@@ -4,8 +4,8 @@ use Rattle.catalogue.proofs.Applies.{sound_new, three_made, view_nothing}
 use Rattle.catalogue.proofs.Clears.{emptied}
 use Rattle.catalogue.proofs.catalogues.Catalogue.clear.Goals as goal
 
-pub invariant-of-self : goal.invariant-of-self
-invariant-of-self c =
+pub invariant_of-self : goal.invariant_of-self
+invariant_of-self c =
     let v = c.args.self.now.profiles in
     let fs = c.clear-profiles.new.profiles in
     let ps = c.clear.new.self in

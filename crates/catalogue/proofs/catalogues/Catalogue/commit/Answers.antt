@@ -3,8 +3,8 @@ use Rattle.model.specs.Plain as plain
 use Rattle.catalogue.proofs.Applies.{committed, has_room, still_whole}
 use Rattle.catalogue.proofs.catalogues.Catalogue.commit.Goals as goal
 
-pub invariant-of-self : goal.invariant-of-self
-invariant-of-self c =
+pub invariant_of-self : goal.invariant_of-self
+invariant_of-self c =
     let cat = c.args.self.now in
     let f = c.add.new.self in
     let x = c.index-mut.result.now in

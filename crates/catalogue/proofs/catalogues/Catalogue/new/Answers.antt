@@ -2,10 +2,10 @@ use Rattle.std.proofs.Common.{vec_items}
 use Rattle.catalogue.proofs.Applies.{sound_new, three_made, view_nothing}
 use Rattle.catalogue.proofs.catalogues.Catalogue.new.Goals as goal
 
-pub invariant-of-result : goal.invariant-of-result
-invariant-of-result c =
-    let paths = c.in-ok-paths in
-    let fs = c.in-ok-profiles in (
+pub invariant_of-result : goal.invariant_of-result
+invariant_of-result c =
+    let paths = c.in_ok-paths in
+    let fs = c.in_ok-profiles in (
       paths.ensures.capacity,
       (
         three_made (vec_items fs.profiles) fs.ensures,

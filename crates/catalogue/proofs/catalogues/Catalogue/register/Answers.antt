@@ -7,8 +7,8 @@ use Rattle.catalogue.proofs.catalogues.Catalogue.register.Goals as goal
 pub push-reserved-requires : goal.push-reserved-requires
 push-reserved-requires c = path_room c.args.self.now c.args.path.now c.requires
 
-pub invariant-of-self : goal.invariant-of-self
-invariant-of-self c =
+pub invariant_of-self : goal.invariant_of-self
+invariant_of-self c =
     let cat = c.args.self.now in
     let p = c.args.path.now in
     let more = c.push-reserved.new.self in

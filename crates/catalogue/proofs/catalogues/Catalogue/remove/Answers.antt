@@ -11,8 +11,8 @@ remove-requires c =
     let paths = c.args.self.now.paths in
     omega (arith, paths.ok.0, taken_place path_of (λ q. bytes_eq q.hash c.args.hash.now.bytes) plain.no_path c.as-slice.result.now (vec_items paths) c.as-slice.ensures.value c.in-Some.row c.in-Some.ensures)
 
-pub invariant-of-self : goal.invariant-of-self
-invariant-of-self c =
+pub invariant_of-self : goal.invariant_of-self
+invariant_of-self c =
     let cat = c.args.self.now in
     let left = c.remove.new.self in
     let h = c.args.hash.now.bytes in

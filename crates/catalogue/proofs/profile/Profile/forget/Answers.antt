@@ -17,10 +17,10 @@ returns-in-Some c = record {
   same = refl;
 }
 
-pub returns-in-default : goal.returns-in-default
-returns-in-default c = record {
+pub returns-in_default : goal.returns-in_default
+returns-in_default c = record {
   gone =
       taken_still generation_of (λ g. eqb g.number c.args.number) no_generation c.as-slice.result.now (vec_items c.args.self.now.generations) c.as-slice.ensures.value
-      c.in-default.ensures;
+      c.in_default.ensures;
   same = refl;
 }

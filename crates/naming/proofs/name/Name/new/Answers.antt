@@ -7,16 +7,18 @@ use Rattle.naming.proofs.name.Name.new.Goals as goal
 pub loop-place-preserved : goal.loop-place-preserved
 loop-place-preserved c =
     copied_more c.args.text.now c.loop-place.bytes c.loop-place.place (omega arith) (omega arith) c.loop-place.invariant
-    (sym c.if-not-is-allowed.ensures)
+    (sym c.if-not-is_allowed.ensures)
 
-pub invariant-of-result : goal.invariant-of-result
-invariant-of-result c =
+pub invariant_of-result : goal.invariant_of-result
+invariant_of-result c =
     let text = c.args.text.now in
     let copied = c.loop-place.invariant in
-    let lawful = copied_lawful text _ _ (omega arith) (search rules) (omega arith) (λ dot. omega arith) copied in (
-      copied.whole,
-      (omega arith, (subst Lawful (sym (copied_text text _ _ (omega arith) copied)) lawful, (copied_rest text _ _ (omega arith) copied, tt))),
-    )
+    let lawful = copied_lawful text _ _ (omega arith) (search rules) (omega arith) (λ dot. omega arith) copied in record {
+      whole = copied.whole;
+      fits = omega arith;
+      lawful = subst Lawful (sym (copied_text text _ _ (omega arith) copied)) lawful;
+      rest = copied_rest text _ _ (omega arith) copied;
+    }
 
 pub returns : goal.returns
 returns c =
