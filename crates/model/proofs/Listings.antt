@@ -1,10 +1,10 @@
 -- The listing of a sound catalogue makes that catalogue, from nothing.
-use Rattle.std.proofs.Common.{◌≡◌, ℕ, zero, suc, ◌+◌, ◌*◌, ◌<◌, ◌≤◌, true, List, [], ◌∷◌, ◌++◌, map, length, get_or, take, set, sym, refl, ap, ◌∙◌, add-one, arith}
-use Rattle.std.proofs.lemmas.List.{append-nil, append_assoc, take_all, take_more, map_push, set-get_or, set-set, length-append, length-map, length-set, length-take-le}
+use Rattle.std.proofs.Common.{◌≡◌, ℕ, zero, suc, ◌<◌, ◌≤◌, true, List, [], ◌∷◌, ◌++◌, map, length, get_or, take, sym, refl, ap, ◌∙◌, add-one, arith}
+use Rattle.std.proofs.lemmas.List.{append-nil, append_assoc, take_all, take_more, map_push, set-get_or, set-set}
 use Rattle.model.specs.Lists.{Chain}
 use Rattle.model.specs.Plain.{Path, Generation, Profile, Catalogue, Entry, register, commit, switch, unused, nothing, no_path, no_generation}
 use Rattle.model.specs.Fits.{profile, has_number, Registrable, Committable, with_profile, after, Makes, start, then, SoundProfile, Sound}
-use Rattle.model.specs.Listing.{current_entry, profile_listing, profiles_listing, listing}
+use Rattle.model.specs.Listing.{profile_listing, listing}
 use Rattle.model.proofs.Sounds.{profile_set_same}
 
 -- The same entries make the same catalogue.

@@ -1,12 +1,12 @@
 -- Where references lead in a sound catalogue, and that what a registered path needs is registered.
-use Rattle.std.proofs.Common.{◌≡◌, ℕ, zero, suc, ◌+◌, ◌*◌, ◌<◌, ◌≤◌, true, false, ◌||◌, List, [], ◌∷◌, ◌++◌, map, length, get_or, take, drop, sym, refl, ap, ◌∙◌, inl, inr, arith}
+use Rattle.std.proofs.Common.{◌≡◌, ℕ, ◌<◌, ◌≤◌, true, List, [], ◌∷◌, length, get_or, take, sym, ap, ◌∙◌, inl, inr, arith}
 use Rattle.std.specs.Str.{bytes_eq}
 use Rattle.std.proofs.lemmas.List.{get_or-take, length-take-le, length-append, length-map}
 use Rattle.std.proofs.lemmas.Bool.{or_cases, both_ways, cases_lt, cases_order}
 use Rattle.model.specs.Lists.{Chain}
-use Rattle.model.specs.Plain.{Bytes, Path, Generation, Profile, Catalogue, no_path, no_generation}
-use Rattle.model.specs.Fits.{any, has_hash, refers, profile, Registrable, SoundProfile, Sound, Registered}
-use Rattle.model.specs.Listing.{current_entry, profile_listing, profiles_listing, listing}
+use Rattle.model.specs.Plain.{Bytes, Path, Generation, Profile, Catalogue, no_path}
+use Rattle.model.specs.Fits.{has_hash, refers, Registrable, SoundProfile, Sound}
+use Rattle.model.specs.Listing.{current_entry, profile_listing, listing}
 use Rattle.model.specs.Closure.{Closure, itself, through}
 use Rattle.model.proofs.Chains.{any_from, any_place}
 use Rattle.model.proofs.Sounds.{same_is, is_same}

@@ -1,13 +1,12 @@
 -- Every fitting entry keeps a catalogue sound.
-use Rattle.std.proofs.Common.{◌≡◌, ℕ, zero, suc, ◌+◌, ◌<◌, ◌≤◌, Bool, true, false, cond, not, ◌||◌, eqb, ◌≢◌, ◌⊎◌, List, [], ◌∷◌, ◌++◌, length, get_or, take, set, filter, sym, refl, ap, ◌∙◌, inl, inr, ⊎_elim, arith}
+use Rattle.std.proofs.Common.{◌≡◌, ℕ, ◌<◌, Bool, true, false, not, eqb, ◌≢◌, List, [], ◌∷◌, ◌++◌, length, get_or, take, filter, sym, refl, ap, ◌∙◌, inl, inr, arith}
 use Rattle.std.specs.Str.{bytes_eq}
-use Rattle.std.proofs.lemmas.List.{length_push, length-set, get_or-set_same, get_or-set_other, length-take-le, get_or-take, nil_from_length}
+use Rattle.std.proofs.lemmas.List.{length_push, length-set, get_or-set_same, get_or-set_other}
 use Rattle.std.proofs.lemmas.Slice.Eq.{bytes_eq-Decides}
-use Rattle.std.proofs.lemmas.Bool.{cases_Bool, cases_lt, cases_eq, or_cases, or_left, or_right, both_ways, not-true, not_from_false, eqb-true, eqb-false, eq-eqb, ne_eqb}
-use Rattle.model.specs.Lists.{Chain}
+use Rattle.std.proofs.lemmas.Bool.{cases_Bool, cases_eq, or_cases, or_left, or_right, both_ways, not-true, not_from_false, eqb-true, eq-eqb, ne_eqb}
 use Rattle.model.specs.Plain.{Bytes, Path, Generation, Profile, Catalogue, Entry, register, commit, switch, forget, remove, unused, nothing, no_path, no_generation, run}
-use Rattle.model.specs.Fits.{any, has_hash, has_number, names_path, refers, profile, Registrable, Committable, Removable, Fits, with_profile, after, Makes, start, then, SoundProfile, Sound, Apart}
-use Rattle.model.proofs.Chains.{chain_push, chain_weaker, chain_kept, any_left, any_push, any_from, any_place, none_at, any_kept, any_of_kept, kept_each, kept_by_le}
+use Rattle.model.specs.Fits.{has_hash, has_number, names_path, refers, profile, Registrable, Committable, Removable, Fits, with_profile, after, Makes, start, then, SoundProfile, Sound, Apart}
+use Rattle.model.proofs.Chains.{chain_push, chain_kept, any_left, any_push, any_from, any_place, none_at, any_kept, any_of_kept, kept_each, kept_by_le}
 
 -- Two rows of bytes that differ in the test differ.
 pub same_is : (a b : Bytes) → bytes_eq a b ≡ true → a ≡ b
