@@ -1,10 +1,10 @@
 -- The bits of a number, one by one.
-use Rattle.std.proofs.Common.{◌≡◌, ℕ, zero, suc, ◌+◌, ◌-◌, ◌*◌, ◌/◌, ◌%◌, ◌^◌, ◌<◌, ◌≤◌, ◌⊎◌, sym, refl, ap, ◌∙◌, subst, inl, inr, mod-lt, mul_assoc, pow-suc, div-one, add-one, one-add, arith, pow_pos, pow_mono, pow-add, shr-shr}
+use Rattle.std.proofs.Common.{◌≡◌, ℕ, zero, suc, ◌+◌, ◌-◌, ◌*◌, ◌/◌, ◌%◌, ◌^◌, ◌<◌, ◌≤◌, ◌⊎◌, sym, refl, ap, ◌∙◌, subst, inl, inr, mod-lt, mul_assoc, pow-suc, div-one, one-add, arith, pow_pos, pow_mono, pow-add, shr-shr}
 use native.Mathlib.Nat.{div-eq_of_lt, div_self, zero-div, mul-add-mod_self_right, mul-add-div_right}
 use native.Mathlib.Decide.{dec_lt}
-use lib.Bits.{bit_and, bit_or, bit_xor, or_shr, or_mod, xor_shr, xor_mod}
-use lib.Count.{ones, ones_cat, ones_step, count_trailing_zeros, under}
-use lib.Pow.{pow-lt, ones_split, ones_lt, high, low, mod-pow-add}
+use lib.Bits.{bit_or, bit_xor, or_shr, or_mod, xor_shr, xor_mod}
+use lib.Count.{ones, ones_cat, count_trailing_zeros, under}
+use lib.Pow.{pow-lt, ones_split, ones_lt, high, mod-pow-add}
 use Rattle.order.specs.Rows.{bit}
 
 pub digit_cases : (x : ℕ) → x < 2 → (x ≡ 0) ⊎ (x ≡ 1)

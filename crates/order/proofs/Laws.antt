@@ -2,7 +2,7 @@
 use Rattle.std.proofs.Common.{◌≡◌, ℕ, Ordering, Less, Equal, Greater, sym, refl, ap, ◌∙◌, arith}
 use Rattle.std.specs.Cmp.{IsTotalOrder}
 use Rattle.std.specs.Ordering.{ordering_reverse}
-use Rattle.order.specs.Law.{Lawful, Before, Level, After}
+use Rattle.order.specs.Law.{Lawful, Before, After}
 
 module _ {X : Type 0} (cmp : X → X → Ordering) (law : Lawful cmp) where
   one_way : (o : Ordering) → o ≡ Greater → ordering_reverse o ≡ Greater → ⊥
@@ -30,7 +30,7 @@ module _ {X : Type 0} (cmp : X → X → Ordering) (law : Lawful cmp) where
       before_turned x z (carried x y z (cmp x y) refl (after_turned z y more) no_more)
 
 -- A lawful order of keys makes one of the elements that have the keys.
-pub lawful_by : {K X : Type 0} {R : K → K → Ordering → Type 0} (o : IsTotalOrder R) (key : X → K) → Lawful (λ (x y : X). R (key x) (key y))
+pub lawful_by : {K X : Type 0} {R : K → K → Ordering} (o : IsTotalOrder R) (key : X → K) → Lawful (λ (x y : X). R (key x) (key y))
 lawful_by o key = record {
   turned = λ x y. o.antisymm (key y) (key x);
   level = λ x y z e. sym (o.congr (key x) (key y) (key z) e);

@@ -1,5 +1,5 @@
 -- A set of rows, held in the bits of one number.
-use Rattle.std.specs.Prelude.{◌≡◌, ℕ, zero, suc, ◌+◌, ◌/◌, ◌%◌, ◌^◌, ◌<◌, ◌≤◌, ◌⊎◌, Some, None, Option}
+use Rattle.std.specs.Prelude.{◌≡◌, ℕ, zero, suc, ◌+◌, ◌/◌, ◌%◌, ◌^◌, ◌≤◌, Some, None, Option}
 use Rattle.order.specs.declared.rows.RowSet.{RowSet}
 
 -- Bit k of n.
