@@ -1,16 +1,16 @@
 -- The rules of a registration that look at every other path.
-use Rattle.std.proofs.Common.{◌≡◌, ℕ, ◌+◌, ◌<◌, ◌≤◌, max, Bool, true, false, not, ◌&&◌, ◌||◌, ltb, List, [], map, length, get_or, Decides, sym, refl, ap, ◌∙◌, inl, inr, arith}
+use Rattle.std.proofs.Common.{◌≡◌, ℕ, ◌+◌, ◌<◌, max, Bool, true, false, not, ◌&&◌, ◌||◌, ltb, List, [], map, length, get_or, Decides, sym, ap, ◌∙◌, inl, inr, arith}
 use Rattle.std.specs.Str.{bytes_eq}
 use Rattle.std.proofs.lemmas.List.{get_or_default}
 use Rattle.std.proofs.lemmas.Bool.{ltb-true, lt-ltb, and_parts, and_from, both_ways, not-true, not_from_false, not-false, cases_Bool}
 use Rattle.model.specs.Plain.{Path, Span, no_path, run}
 use Rattle.model.specs.Fits.{any, Apart, Within, has_hash}
-use Rattle.model.proofs.Chains.{any_from, none_at}
+use Rattle.model.proofs.Chains.{none_at}
 use Rattle.naming.specs.declared.hash.Hash.{Hash}
 use Rattle.records.specs.Runs.{meets, ApartFromAll, KnownAll}
 use Rattle.records.specs.declared.records.PathRecord.{PathRecord}
 use Rattle.records.specs.View.{bytes_of, listed, path_of}
-use Rattle.records.proofs.Finds.{Unmet, unmet_all, any_map}
+use Rattle.records.proofs.Finds.{unmet_all, any_map}
 
 pub meets_shares : (s t : Span) → meets s t ≡ true → Apart s t → ⊥
 meets_shares s t e apart =

@@ -5,7 +5,7 @@ use Rattle.model.specs.Plain.{run}
 use Rattle.model.specs.Fits.{Registrable, Climbing, InData, has_hash}
 use Rattle.records.specs.declared.records.PathRecord.{PathRecord}
 use Rattle.records.specs.Runs.{ApartFromAll, KnownAll}
-use Rattle.records.specs.View.{bytes_of, listed, path_of}
+use Rattle.records.specs.View.{path_of}
 
 module _ (n : ℕ) (paths : List PathRecord) (p : PathRecord) where
   pub registrable_by : has_hash p.hash.bytes (map path_of paths) ≡ false → length paths < 40 → p.size ≤ 16384

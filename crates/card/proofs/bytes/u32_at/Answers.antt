@@ -6,5 +6,5 @@ use Rattle.card.proofs.bytes.u32_at.Goals as goal
 
 pub returns : goal.returns
 returns c =
-    let got = c.bytes-at.ensures in
-    read_four c.bytes-at.result _ (ap length got ∙ length-take-le _ _ (simp length-drop (omega arith))) c.from-le-bytes.ensures ∙ ap (value 256) got
+    let got = c.bytes_at.ensures in
+    read_four c.bytes_at.result _ (ap length got ∙ length-take-le _ _ (simp length-drop (omega arith))) c.from_le_bytes.ensures ∙ ap (value 256) got

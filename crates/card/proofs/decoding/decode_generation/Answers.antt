@@ -6,4 +6,4 @@ use Rattle.card.proofs.decoding.decode_generation.Goals as goal
 pub returns : goal.returns
 returns c block is =
     let rest = c.args.rest.now in
-    (sym (byte_after_kind block rest is 0 (omega arith)), ap (value 256) (sym (after_kind block rest is 1 4)) ∙ sym c.u32-at.ensures)
+    (sym (byte_after_kind block rest is 0 (omega arith)), ap (value 256) (sym (after_kind block rest is 1 4)) ∙ sym c.u32_at.ensures)

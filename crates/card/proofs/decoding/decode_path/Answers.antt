@@ -9,11 +9,11 @@ returns c block is =
     let name = c.in_ok-name.ensures block is in
     let refs = c.in_ok-refs.ensures block is in
     record {
-      hash = sym (c.new.ensures ∙ c.bytes-at.ensures ∙ after_kind block rest is 0 20);
+      hash = sym (c.new.ensures ∙ c.bytes_at.ensures ∙ after_kind block rest is 0 20);
       name_length = name.long;
       name = name.text;
-      size = ap (value 256) (sym (after_kind block rest is 45 4)) ∙ sym c.u32-at.ensures;
-      first_block = ap (value 256) (sym (after_kind block rest is 49 4)) ∙ sym c.u32-at-2.ensures;
+      size = ap (value 256) (sym (after_kind block rest is 45 4)) ∙ sym c.u32_at.ensures;
+      first_block = ap (value 256) (sym (after_kind block rest is 49 4)) ∙ sym c.u32_at-2.ensures;
       reference_count = refs.count;
       references = refs.each;
     }

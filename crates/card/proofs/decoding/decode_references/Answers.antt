@@ -10,7 +10,7 @@ returns-then-not-push c block is =
 
 pub loop-k-preserved : goal.loop-k-preserved
 loop-k-preserved c =
-    gathered_more c.args.rest.now _ _ c.new.result c.loop-k.k c.loop-k.invariant (sym (c.new.ensures ∙ c.bytes-at.ensures))
+    gathered_more c.args.rest.now _ _ c.new.result c.loop-k.k c.loop-k.invariant (sym (c.new.ensures ∙ c.bytes_at.ensures))
     c.if-not-push.ensures.1
 
 pub returns : goal.returns

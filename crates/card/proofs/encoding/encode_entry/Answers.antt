@@ -5,9 +5,9 @@ use Rattle.card.proofs.encoding.encode_entry.Goals as goal
 pub returns : goal.returns
 returns c =
     let entry = c.args.entry.now in
-    let end = c.put-trailer.ensures in
+    let end = c.put_trailer.ensures in
     record {
-      says = says_kept _ _ end.below (entry_of entry) (few_entry entry) c.fields-of-block.ensures.says;
+      says = says_kept _ _ end.below (entry_of entry) (few_entry entry) c.fields_of-block.ensures.says;
       marked = record { number = end.number; back = end.back; mark = end.mark };
-      clean = clean_kept _ _ end.below (entry_of entry) c.fields-of-block.ensures.clean;
+      clean = clean_kept _ _ end.below (entry_of entry) c.fields_of-block.ensures.clean;
     }

@@ -5,7 +5,7 @@ use Rattle.card.proofs.encoding.fields_of.Goals as goal
 pub returns-in-Commit : goal.returns-in-Commit
 returns-in-Commit c =
     let hash = c.in-Commit.hash in
-    let fields = c.generation-fields-block.ensures in
+    let fields = c.generation_fields-block.ensures in
     rw c.in-Commit.is (record {
       says = commit_says _ _ hash.bytes _ _ hash.whole c.put.ensures fields.kind fields.profile fields.number;
       clean = commit_clean _ _ hash.bytes c.in-Commit.profile c.in-Commit.number hash.whole c.put.ensures fields.clean;

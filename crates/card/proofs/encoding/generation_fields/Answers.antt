@@ -7,14 +7,14 @@ pub returns : goal.returns
 returns c =
     let one = c.put.new.block in
     let two = c.put-2.new.block in
-    let exit = c.put-u32.new.block in
-    let third = c.put-u32.ensures.kept in
+    let exit = c.put_u32.new.block in
+    let third = c.put_u32.ensures.kept in
     record {
       kind =
           read_below kind_field one exit 1 (omega arith) (below_both one two exit 1 2 (omega arith) c.put-2.ensures.kept.below third.below)
           ∙ one_byte kind_field one c.args.kind c.put.ensures.here;
       profile = read_below profile_field two exit 2 (omega arith) third.below ∙ one_byte profile_field two c.args.profile c.put-2.ensures.here;
-      number = c.put-u32.ensures.here;
+      number = c.put_u32.ensures.here;
       clean =
           zero_past two exit 6 256 2 6 (omega arith) third
           (zero_past one two 6 256 1 2 (omega arith) c.put-2.ensures.kept

@@ -13,18 +13,18 @@ pub returns : goal.returns
 returns c =
     let path = c.args.path.now in
     let short : length (name_text path.name) ≤ 24 = omega (arith, text_length path.name, path.name.fits) in
-    let count = ap length c.as-slice-hashes.ensures ∙ sym (length-map (listed path.refs) bytes_of) in
-    let name_length = subst (λ t. Wrote (field 21 1) (length t ∷ []) c.put-2.new.block c.put-3.new.block) c.as-bytes-name.ensures c.put-3.ensures in
-    let name = subst (λ t. Wrote (field 22 (length t)) t c.put-3.new.block c.put-4.new.block) c.as-bytes-name.ensures c.put-4.ensures in
-    let reference_count = subst (λ n. Wrote (field 54 1) (n ∷ []) c.put-u32-2.new.block c.put-5.new.block) count c.put-5.ensures in
+    let count = ap length c.as_slice-hashes.ensures ∙ sym (length-map (listed path.refs) bytes_of) in
+    let name_length = subst (λ t. Wrote (field 21 1) (length t ∷ []) c.put-2.new.block c.put-3.new.block) c.as_bytes-name.ensures c.put-3.ensures in
+    let name = subst (λ t. Wrote (field 22 (length t)) t c.put-3.new.block c.put-4.new.block) c.as_bytes-name.ensures c.put-4.ensures in
+    let reference_count = subst (λ n. Wrote (field 54 1) (n ∷ []) c.put_u32-2.new.block c.put-5.new.block) count c.put-5.ensures in
     let references =
-    subst (λ hs. Wrote-hashes (map bytes_of hs) c.put-5.new.block c.put-references.new.block) c.as-slice-hashes.ensures c.put-references.ensures
+    subst (λ hs. Wrote-hashes (map bytes_of hs) c.put-5.new.block c.put_references.new.block) c.as_slice-hashes.ensures c.put_references.ensures
     in
     record {
       says =
           path_says (path_of path) _ _ _ _ _ _ _ _ _ (zero_blank 256) path.hash.whole short c.put.ensures c.put-2.ensures name_length name
-          c.put-u32.ensures c.put-u32-2.ensures reference_count references;
+          c.put_u32.ensures c.put_u32-2.ensures reference_count references;
       clean =
           path_clean (path_of path) _ _ _ _ _ _ _ _ _ (zero_blank 256) path.hash.whole short c.put.ensures c.put-2.ensures name_length name
-          c.put-u32.ensures c.put-u32-2.ensures reference_count references;
+          c.put_u32.ensures c.put_u32-2.ensures reference_count references;
     }

@@ -6,12 +6,12 @@ use Rattle.card.proofs.label.encode_label.Goals as goal
 
 pub returns : goal.returns
 returns c =
-    let one = c.put-u32.new.block in
-    let two = c.put-u32-2.new.block in
-    let exit = c.put-trailer.new.block in
-    let size = c.put-u32.ensures in
-    let count = c.put-u32-2.ensures in
-    let end = c.put-trailer.ensures in
+    let one = c.put_u32.new.block in
+    let two = c.put_u32-2.new.block in
+    let exit = c.put_trailer.new.block in
+    let size = c.put_u32.ensures in
+    let count = c.put_u32-2.ensures in
+    let end = c.put_trailer.ensures in
     let from_one = below_both one two exit 236 240 (omega arith) count.kept.below end.below in
     let fields : LabelFields c.args.blocks exit (half_of c.args.label.now) = record {
       size = read_below card_size_field one exit 236 (omega arith) from_one ∙ size.here;

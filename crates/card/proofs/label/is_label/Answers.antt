@@ -5,8 +5,8 @@ use Rattle.card.proofs.label.is_label.Goals as goal
 pub returns-then-eq : goal.returns-then-eq
 returns-then-eq c = (
   λ t. (
-    sym c.read-ending.ensures.mark ∙ (slice_eq-Decides _ _ _ c.eq.ensures).0 c.if-eq.true,
-    sym c.u32-at.ensures ∙ eqb-true _ _ t,
+    sym c.read_ending.ensures.mark ∙ (slice_eq-Decides _ _ _ c.eq.ensures).0 c.if-eq.true,
+    sym c.u32_at.ensures ∙ eqb-true _ _ t,
   ),
-  λ both. eq-eqb _ _ (c.u32-at.ensures ∙ both.1),
+  λ both. eq-eqb _ _ (c.u32_at.ensures ∙ both.1),
 )

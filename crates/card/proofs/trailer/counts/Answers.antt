@@ -5,9 +5,9 @@ use Rattle.card.proofs.trailer.counts.Goals as goal
 pub returns-then-end-back : goal.returns-then-end-back
 returns-then-end-back c = (
   λ t. record {
-    number = sym c.u64-at.ensures ∙ eqb-true _ _ t;
-    back = sym c.read-ending-end.ensures.back ∙ c.if-end-back.true.1;
-    mark = sym c.read-ending-end.ensures.mark ∙ (slice_eq-Decides _ _ _ c.eq.ensures).0 c.if-end-back.true.0;
+    number = sym c.u64_at.ensures ∙ eqb-true _ _ t;
+    back = sym c.read_ending-end.ensures.back ∙ c.if-end-back.true.1;
+    mark = sym c.read_ending-end.ensures.mark ∙ (slice_eq-Decides _ _ _ c.eq.ensures).0 c.if-end-back.true.0;
   },
-  λ m. eq-eqb _ _ (c.u64-at.ensures ∙ m.number),
+  λ m. eq-eqb _ _ (c.u64_at.ensures ∙ m.number),
 )

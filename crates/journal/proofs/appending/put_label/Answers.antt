@@ -3,4 +3,4 @@ use Rattle.journal.proofs.appending.put_label.Goals as goal
 
 pub returns : goal.returns
 returns g c =
-    (c.encode-label.result, (label_of_place _ _ c.args.at.now c.args.count _ c.start.ensures c.encode-label.ensures.labels, c.put.ensures))
+    (c.encode_label.result, (label_of_place _ _ c.args.at.now c.args.count _ c.start.ensures c.encode_label.ensures.labels, c.put.ensures))

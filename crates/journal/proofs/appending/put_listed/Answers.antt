@@ -6,4 +6,4 @@ pub unreachable-requires : goal.unreachable-requires
 unreachable-requires g c = element_there _ _ no_entry c.requires.1 c.in-None.ensures
 
 pub returns : goal.returns
-returns g c = rw (← element_is _ _ _ no_entry c.requires.1 c.in-Some.ensures) c.put-entry.ensures
+returns g c = rw (← element_is _ _ _ no_entry c.requires.1 c.in-Some.ensures) c.put_entry.ensures

@@ -5,20 +5,20 @@ use Rattle.journal.proofs.formatting.lay_out.Goals as goal
 
 pub returns-in_err-put : goal.returns-in_err-put
 returns-in_err-put g c =
-    let p = err_from_is_err_and c.from-residual.result c.from-residual.ensures.1 in
+    let p = err_from_is_err_and c.from_residual.result c.from_residual.ensures.1 in
     rw (p.1, p.2) (unlabel_fails _ _ _ _ c.in_err-put.ensures)
 
-pub returns-in_err-clear-halves : goal.returns-in_err-clear-halves
-returns-in_err-clear-halves g c =
-    let p = err_from_is_err_and c.from-residual-in_err-clear-halves.result c.from-residual-in_err-clear-halves.ensures.1 in
-    rw (p.1, p.2) (clear_fails _ _ _ _ c.in_ok-put.ensures _ _ c.in_err-clear-halves.ensures)
+pub returns-in_err-clear_halves : goal.returns-in_err-clear_halves
+returns-in_err-clear_halves g c =
+    let p = err_from_is_err_and c.from_residual-in_err-clear_halves.result c.from_residual-in_err-clear_halves.ensures.1 in
+    rw (p.1, p.2) (clear_fails _ _ _ _ c.in_ok-put.ensures _ _ c.in_err-clear_halves.ensures)
 
-pub returns-in_err-put-label : goal.returns-in_err-put-label
-returns-in_err-put-label g c =
-    let p = err_from_is_err_and c.from-residual-in_err-put-label.result c.from-residual-in_err-put-label.ensures.1 in
-    rw (p.1, p.2) (label_fails _ _ _ _ c.in_ok-put.ensures _ _ c.in_ok-clear-halves.ensures _ lowest refl refl refl _ c.in_err-put-label.ensures)
+pub returns-in_err-put_label : goal.returns-in_err-put_label
+returns-in_err-put_label g c =
+    let p = err_from_is_err_and c.from_residual-in_err-put_label.result c.from_residual-in_err-put_label.ensures.1 in
+    rw (p.1, p.2) (label_fails _ _ _ _ c.in_ok-put.ensures _ _ c.in_ok-clear_halves.ensures _ lowest refl refl refl _ c.in_err-put_label.ensures)
 
 pub returns : goal.returns
 returns g c =
-    laid_out _ _ (g.D.Disk.means c.put.new.disk) _ c.in_ok-put.ensures (g.D.Disk.means c.clear-halves.new.disk) _ c.in_ok-clear-halves.ensures
-    (g.D.Disk.means c.put-label.new.disk) _ refl refl refl _ c.in_ok-put-label.ensures
+    laid_out _ _ (g.D.Disk.means c.put.new.disk) _ c.in_ok-put.ensures (g.D.Disk.means c.clear_halves.new.disk) _ c.in_ok-clear_halves.ensures
+    (g.D.Disk.means c.put_label.new.disk) _ refl refl refl _ c.in_ok-put_label.ensures

@@ -15,6 +15,6 @@ pub returns : goal.returns
 returns c =
     let cat = c.args.catalogue.now in
     let slice = c.paths-paths.result.now in
-    c.profiles-entry.ensures
+    c.profiles_entry.ensures
     ∙ ap (λ fs. slice_get (profiles_listing 0 (map profile_of fs)) (c.args.place - length slice)) c.profiles.ensures
     ∙ past_paths slice (vec_items cat.paths) (profiles_listing 0 (map profile_of (vec_items cat.profiles))) c.paths-paths.ensures c.args.place (omega arith)

@@ -5,16 +5,16 @@ use Rattle.catalogue.specs.Whole.{catalogue_of}
 use Rattle.queries.proofs.Listings.{short, there_is, there_is_none}
 use Rattle.queries.proofs.checkpoint.listing_len.Goals as goal
 
-pub returns-then-is-none : goal.returns-then-is-none
-returns-then-is-none c =
+pub returns-then-is_none : goal.returns-then-is_none
+returns-then-is_none c =
     let cat = catalogue_of c.args.catalogue.now in
-    let past = there_is_none entry_of (listing cat) c.loop-place.place c.listing-entry.result c.listing-entry.ensures c.if-is-none.ensures in
+    let past = there_is_none entry_of (listing cat) c.loop-place.place c.listing_entry.result c.listing_entry.ensures c.if-is_none.ensures in
     record { value = omega arith; bound = omega arith }
 
 pub loop-place-preserved : goal.loop-place-preserved
 loop-place-preserved c =
     let cat = catalogue_of c.args.catalogue.now in
-    let more = there_is entry_of (listing cat) c.loop-place.place c.listing-entry.result c.listing-entry.ensures c.if-is-none.ensures in
+    let more = there_is entry_of (listing cat) c.loop-place.place c.listing_entry.result c.listing_entry.ensures c.if-is_none.ensures in
     omega arith
 
 pub returns : goal.returns

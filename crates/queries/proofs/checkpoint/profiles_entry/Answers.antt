@@ -6,14 +6,14 @@ pub returns-then-left-count : goal.returns-then-left-count
 returns-then-left-count c =
     let f = c.index-profiles-number in
     let p = c.loop-number.number in
-    c.profile-entry.ensures
-    ∙ sym (c.loop-number.invariant ∙ here_at c.args.profiles.now p f.result (omega arith) f.is c.loop-number.left (omega (arith, c.profile-len-count.ensures p)))
+    c.profile_entry.ensures
+    ∙ sym (c.loop-number.invariant ∙ here_at c.args.profiles.now p f.result (omega arith) f.is c.loop-number.left (omega (arith, c.profile_len-count.ensures p)))
 
 pub loop-number-preserved : goal.loop-number-preserved
 loop-number-preserved c =
     let f = c.index-profiles-number in
     let p = c.loop-number.number in
-    c.loop-number.invariant ∙ past_at c.args.profiles.now p f.result (omega arith) f.is c.loop-number.left c.profile-len-count.result (c.profile-len-count.ensures p) (omega arith)
+    c.loop-number.invariant ∙ past_at c.args.profiles.now p f.result (omega arith) f.is c.loop-number.left c.profile_len-count.result (c.profile_len-count.ensures p) (omega arith)
 
 pub returns : goal.returns
 returns c = sym (c.loop-number.invariant ∙ end_at c.args.profiles.now c.loop-number.number c.loop-number.left (omega arith))

@@ -3,7 +3,7 @@ use Rattle.records.specs.View.{path_of}
 use Rattle.queries.specs.Reach.{Leads}
 use Rattle.queries.proofs.Founds.{found_none, found_no, found_yes, leads_all, leads_no, leads_none, leads_yes}
 use Rattle.queries.proofs.closing.references_of.Goals as goal
-use Rattle.queries.proofs.closing.references_of.Goals.{then-refers-to, else-refers-to}
+use Rattle.queries.proofs.closing.references_of.Goals.{then-refers_to, else-refers_to}
 
 pub returns-then-row-paths : goal.returns-then-row-paths
 returns-then-row-paths c = leads_none c.args.paths.now c.args.row c.empty-rows.result (omega arith) c.empty-rows.ensures
@@ -18,15 +18,15 @@ loop-place-preserved c =
     let i = c.loop-place.place in
     let p = c.index-paths-row in
     let q = c.index-paths-place in
-    elim c.if-refers-to.branch [
-      | then-refers-to w ↦
+    elim c.if-refers_to.branch [
+      | then-refers_to w ↦
           rw w.rows-is
           (found_yes (Leads (map path_of xs) row) i c.loop-place.rows w.insert.new.self
-          (leads_yes xs row i p.result q.result (omega arith) (omega arith) p.is q.is w.if-refers-to.ensures) w.insert.ensures c.loop-place.invariant)
-      | else-refers-to w ↦
+          (leads_yes xs row i p.result q.result (omega arith) (omega arith) p.is q.is w.if-refers_to.ensures) w.insert.ensures c.loop-place.invariant)
+      | else-refers_to w ↦
           rw w.rows-is
           (found_no (Leads (map path_of xs) row) i c.loop-place.rows
-          (leads_no xs row i p.result q.result (omega arith) (omega arith) p.is q.is w.if-refers-to.ensures) c.loop-place.invariant)
+          (leads_no xs row i p.result q.result (omega arith) (omega arith) p.is q.is w.if-refers_to.ensures) c.loop-place.invariant)
     ]
 
 pub returns : goal.returns

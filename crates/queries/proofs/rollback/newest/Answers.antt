@@ -9,6 +9,6 @@ returns-in-None c = none_past c.args.catalogue.now c.args.profile c.in-None.ensu
 pub returns-in-Some : goal.returns-in-Some
 returns-in-Some c =
     let found = c.in-Some.ensures in
-    let r = c.greatest-number.result in
+    let r = c.greatest_number.result in
     subst (λ gens. Newest gens r) found.0
-    (newest_of_all c.in-Some.generations.now found.1 c.below.result r c.greatest-number.ensures c.below.ensures)
+    (newest_of_all c.in-Some.generations.now found.1 c.below.result r c.greatest_number.ensures c.below.ensures)

@@ -13,6 +13,6 @@ returns-in-None c =
 pub returns-in-Some : goal.returns-in-Some
 returns-in-Some c =
     let found = c.in-Some.ensures in
-    let r = c.greatest-number.result in
+    let r = c.greatest_number.result in
     subst (λ gens. NewestBelow gens c.args.number r) found.0
-    (newest_of_some c.in-Some.generations.now found.1 c.places-below.result r c.greatest-number.ensures c.args.number c.places-below.ensures)
+    (newest_of_some c.in-Some.generations.now found.1 c.places_below.result r c.greatest_number.ensures c.args.number c.places_below.ensures)

@@ -6,4 +6,4 @@ use Rattle.records.proofs.lookups.is_named.Goals as goal
 
 pub returns : goal.returns
 returns c =
-    c.is-any.ensures ∙ sym (any_map generation_of (λ g. bytes_eq g.path c.args.hash.now.bytes) c.args.generations.now)
+    c.is_any.ensures ∙ sym (any_map generation_of (λ g. bytes_eq g.path c.args.hash.now.bytes) c.args.generations.now)

@@ -6,4 +6,4 @@ use Rattle.records.proofs.lookups.is_registered.Goals as goal
 
 pub returns : goal.returns
 returns c =
-    c.is-some.ensures ∙ sym (found_any (λ p. bytes_eq p.hash c.args.hash.now.bytes) (map path_of c.args.paths.now) c.row-of.result c.row-of.ensures)
+    c.is_some.ensures ∙ sym (found_any (λ p. bytes_eq p.hash c.args.hash.now.bytes) (map path_of c.args.paths.now) c.row_of.result c.row_of.ensures)

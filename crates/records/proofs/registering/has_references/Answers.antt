@@ -5,9 +5,9 @@ use Rattle.records.specs.View.{bytes_of, path_of}
 use Rattle.records.proofs.Apart.{known_decided, decides_both}
 use Rattle.records.proofs.registering.has_references.Goals as goal
 
-pub returns-then-is-climbing : goal.returns-then-is-climbing
-returns-then-is-climbing c =
-    let is = c.as-slice-hashes.ensures in
+pub returns-then-is_climbing : goal.returns-then-is_climbing
+returns-then-is_climbing c =
+    let is = c.as_slice-hashes.ensures in
     let Up : List Hash → Type 0 = λ hs. Climbing (map bytes_of hs) in
-    decides_both (not c.is-any.result) (subst Up is (c.if-is-climbing.ensures.0 refl))
-    (known_decided c.args.path.now (map path_of c.args.paths.now) c.as-slice-hashes.result.now c.is-any.result is c.is-any.ensures)
+    decides_both (not c.is_any.result) (subst Up is (c.if-is_climbing.ensures.0 refl))
+    (known_decided c.args.path.now (map path_of c.args.paths.now) c.as_slice-hashes.result.now c.is_any.result is c.is_any.ensures)

@@ -10,10 +10,10 @@ pub returns-in_err-label : goal.returns-in_err-label
 returns-in_err-label g c =
     let m = g.D.Disk.means c.args.disk.now in
     let same = c.size-blocks.ensures.value in
-    let p = err_from_is_err_and c.from-residual.result c.from-residual.ensures.1 in
-    let loaded : Loaded m c.args.catalogue.now c.from-residual.result c.args.catalogue.now =
+    let p = err_from_is_err_and c.from_residual.result c.from_residual.ensures.1 in
+    let loaded : Loaded m c.args.catalogue.now c.from_residual.result c.args.catalogue.now =
     rw (p.1, p.2) (label_fails m c.args.catalogue.now c.size-blocks.result _ (omega (arith, same), omega (arith, same)) same c.in_err-label.ensures) in
-    record { card = loaded; backed = backed_loads m c.args.catalogue.now c.from-residual.result c.args.catalogue.now loaded }
+    record { card = loaded; backed = backed_loads m c.args.catalogue.now c.from_residual.result c.args.catalogue.now loaded }
 
 pub returns : goal.returns
 returns g c =
@@ -21,6 +21,6 @@ returns g c =
     let read = c.in_ok-label.ensures in
     let same = c.size-blocks.ensures.value in
     let sized : CardSized m = (omega (arith, same), omega (arith, same)) in
-    let found = c.read-half.ensures sized read.0 (rw same at read.1) (c.clear.ensures.0, c.clear.ensures.1 ∙ same) in
-    let loaded : Loaded m c.args.catalogue.now c.read-half.result c.read-half.new.catalogue = half_loads m c.args.catalogue.now c.read-half.result c.read-half.new.catalogue sized read.0 found in
-    record { card = loaded; backed = backed_loads m c.args.catalogue.now c.read-half.result c.read-half.new.catalogue loaded }
+    let found = c.read_half.ensures sized read.0 (rw same at read.1) (c.clear.ensures.0, c.clear.ensures.1 ∙ same) in
+    let loaded : Loaded m c.args.catalogue.now c.read_half.result c.read_half.new.catalogue = half_loads m c.args.catalogue.now c.read_half.result c.read_half.new.catalogue sized read.0 found in
+    record { card = loaded; backed = backed_loads m c.args.catalogue.now c.read_half.result c.read_half.new.catalogue loaded }

@@ -7,9 +7,9 @@ use Rattle.catalogue.proofs.catalogues.Catalogue.clear.Goals as goal
 pub invariant_of-self : goal.invariant_of-self
 invariant_of-self c =
     let v = c.args.self.now.profiles in
-    let fs = c.clear-profiles.new.profiles in
+    let fs = c.clear_profiles.new.profiles in
     let ps = c.clear.new.self in
-    let empty = emptied v fs (omega arith) c.clear-profiles.ensures in (
+    let empty = emptied v fs (omega arith) c.clear_profiles.ensures in (
       omega (arith, c.clear.ensures.capacity, c.args.self.now.room),
       (three_made (vec_items (with_items v fs)) empty, (sound_new c.args.blocks _ (view_nothing (vec_items ps) (vec_items (with_items v fs)) c.clear.ensures.items empty), tt)),
     )
@@ -17,5 +17,5 @@ invariant_of-self c =
 pub returns : goal.returns
 returns c =
     let v = c.args.self.now.profiles in
-    let fs = c.clear-profiles.new.profiles in
-    (view_nothing (vec_items c.clear.new.self) (vec_items (with_items v fs)) c.clear.ensures.items (emptied v fs (omega arith) c.clear-profiles.ensures), refl)
+    let fs = c.clear_profiles.new.profiles in
+    (view_nothing (vec_items c.clear.new.self) (vec_items (with_items v fs)) c.clear.ensures.items (emptied v fs (omega arith) c.clear_profiles.ensures), refl)

@@ -9,7 +9,7 @@ use Rattle.catalogue.proofs.catalogues.Catalogue.remove.Goals as goal
 pub remove-requires : goal.remove-requires
 remove-requires c =
     let paths = c.args.self.now.paths in
-    omega (arith, paths.ok.0, taken_place path_of (λ q. bytes_eq q.hash c.args.hash.now.bytes) plain.no_path c.as-slice.result.now (vec_items paths) c.as-slice.ensures.value c.in-Some.row c.in-Some.ensures)
+    omega (arith, paths.ok.0, taken_place path_of (λ q. bytes_eq q.hash c.args.hash.now.bytes) plain.no_path c.as_slice.result.now (vec_items paths) c.as_slice.ensures.value c.in-Some.row c.in-Some.ensures)
 
 pub invariant_of-self : goal.invariant_of-self
 invariant_of-self c =
@@ -17,9 +17,9 @@ invariant_of-self c =
     let left = c.remove.new.self in
     let h = c.args.hash.now.bytes in
     whole_paths cat left (plain.remove h) c.requires
-    (removed_at cat h c.as-slice.result.now (vec_items left) c.in-Some.row c.as-slice.ensures.value c.in-Some.ensures c.remove.ensures.items) c.remove.ensures.capacity
+    (removed_at cat h c.as_slice.result.now (vec_items left) c.in-Some.row c.as_slice.ensures.value c.in-Some.ensures c.remove.ensures.items) c.remove.ensures.capacity
 
 pub returns-in-Some : goal.returns-in-Some
 returns-in-Some c =
     let cat = c.args.self.now in
-    (removed_at cat c.args.hash.now.bytes c.as-slice.result.now (vec_items c.remove.new.self) c.in-Some.row c.as-slice.ensures.value c.in-Some.ensures c.remove.ensures.items, refl)
+    (removed_at cat c.args.hash.now.bytes c.as_slice.result.now (vec_items c.remove.new.self) c.in-Some.row c.as_slice.ensures.value c.in-Some.ensures c.remove.ensures.items, refl)

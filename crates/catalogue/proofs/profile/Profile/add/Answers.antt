@@ -9,4 +9,4 @@ returns c =
     let made = c.args.generation in
     let before = vec_items c.args.self.now.generations in
     ap (λ gens. profile_from gens made.number)
-    (ap (map generation_of) {y = before ++ (made ∷ [])} c.push-reserved.ensures.items ∙ map_push generation_of before made)
+    (ap (map generation_of) {y = before ++ (made ∷ [])} c.push_reserved.ensures.items ∙ map_push generation_of before made)

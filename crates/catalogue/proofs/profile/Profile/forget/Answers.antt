@@ -7,12 +7,12 @@ use Rattle.catalogue.proofs.profile.Profile.forget.Goals as goal
 pub remove-requires : goal.remove-requires
 remove-requires c =
     let gens = c.args.self.now.generations in
-    omega (arith, gens.ok.0, taken_place generation_of (λ g. eqb g.number c.args.number) no_generation c.as-slice.result.now (vec_items gens) c.as-slice.ensures.value c.in-Some.place c.in-Some.ensures)
+    omega (arith, gens.ok.0, taken_place generation_of (λ g. eqb g.number c.args.number) no_generation c.as_slice.result.now (vec_items gens) c.as_slice.ensures.value c.in-Some.place c.in-Some.ensures)
 
 pub returns-in-Some : goal.returns-in-Some
 returns-in-Some c = record {
   gone =
-      taken_view generation_of (λ g. eqb g.number c.args.number) no_generation c.as-slice.result.now (vec_items c.args.self.now.generations) c.as-slice.ensures.value
+      taken_view generation_of (λ g. eqb g.number c.args.number) no_generation c.as_slice.result.now (vec_items c.args.self.now.generations) c.as_slice.ensures.value
       (vec_items c.remove.new.self) c.in-Some.place c.in-Some.ensures c.remove.ensures.items;
   same = refl;
 }
@@ -20,7 +20,7 @@ returns-in-Some c = record {
 pub returns-in_default : goal.returns-in_default
 returns-in_default c = record {
   gone =
-      taken_still generation_of (λ g. eqb g.number c.args.number) no_generation c.as-slice.result.now (vec_items c.args.self.now.generations) c.as-slice.ensures.value
+      taken_still generation_of (λ g. eqb g.number c.args.number) no_generation c.as_slice.result.now (vec_items c.args.self.now.generations) c.as_slice.ensures.value
       c.in_default.ensures;
   same = refl;
 }

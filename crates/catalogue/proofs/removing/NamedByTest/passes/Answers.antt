@@ -6,5 +6,5 @@ use Rattle.catalogue.proofs.removing.NamedByTest.passes.Goals as goal
 pub returns : goal.returns
 returns c =
     let h = c.args.self.now.0.now.bytes in
-    ◌∙◌ {b = names_path h (map generation_of c.as-slice.result.now)} c.is-named.ensures
-    (ap (λ gs. names_path h (map generation_of gs)) c.as-slice.ensures.value)
+    ◌∙◌ {b = names_path h (map generation_of c.as_slice.result.now)} c.is_named.ensures
+    (ap (λ gs. names_path h (map generation_of gs)) c.as_slice.ensures.value)

@@ -9,5 +9,5 @@ pub returns : goal.returns
 returns c =
     let h = c.args.hash.now.bytes in
     let hashes = listed c.args.self.now.refs in
-    ◌∙◌ {b = any (λ r. bytes_eq r.bytes h) c.as-slice.result.now} c.is-any.ensures
-    (ap (any (λ r. bytes_eq r.bytes h)) c.as-slice.ensures ∙ sym (any_map bytes_of (λ r. bytes_eq r h) hashes))
+    ◌∙◌ {b = any (λ r. bytes_eq r.bytes h) c.as_slice.result.now} c.is_any.ensures
+    (ap (any (λ r. bytes_eq r.bytes h)) c.as_slice.ensures ∙ sym (any_map bytes_of (λ r. bytes_eq r h) hashes))
