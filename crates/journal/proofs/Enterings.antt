@@ -9,7 +9,7 @@ use Rattle.model.specs.Listing.{listing}
 use Rattle.model.specs.Standing as model
 use Rattle.model.proofs.Sounds.{makes_sound}
 use Rattle.model.proofs.Rows.{listing_short}
-use Rattle.catalogue.specs.declared.catalogues.Catalogue.{Catalogue as Rust-catalogue}
+use Rattle.catalogue.specs.declared.catalogues.Catalogue.{Catalogue as RustCatalogue}
 use Rattle.catalogue.specs.Whole.{catalogue_of}
 use Rattle.card.specs.Label.{Half}
 use Rattle.journal.specs.Blocks.{Blocks}
@@ -73,7 +73,7 @@ moved_before s e full short t as_before = as_moved full
 moved_before s e full short t (as_moved again) = absurd (omega arith)
 moved_before s e full short t as_after = subst (BeforeOrAfter s e) (entered_moved s e full short) as_after
 
-module _ (m : Meaning) (cat : Rust-catalogue) (p : Place) (e : Entry) (full : p.used ≡ 64) (numbered : p.first + 64 ≤ 2 ^ 62 - 128) where
+module _ (m : Meaning) (cat : RustCatalogue) (p : Place) (e : Entry) (full : p.used ≡ 64) (numbered : p.first + 64 ≤ 2 ^ 62 - 128) where
   pub change_fails : (m₁ : Meaning) (fault : Fault) → Changed m cat p (Err fault) m₁ → Appends m cat p e (Err fault) m₁
   change_fails m₁ Dark change = λ ready fits.
       let cut = change ready full numbered in
@@ -108,5 +108,5 @@ module _ (m : Meaning) (cat : Rust-catalogue) (p : Place) (e : Entry) (full : p.
       enters (catalogue_of cat) done.ready.lit done.ready.backed (subst (λ (n : ℕ). Fits n (catalogue_of cat) e) (sym done.kept.size) fits)
 
 -- In a half with room.
-pub enters_at_once : (m m' : Meaning) (cat : Rust-catalogue) (p : Place) (e : Entry) (r : Result Place Fault) → Enters m p e r m' → Appends m cat p e r m'
+pub enters_at_once : (m m' : Meaning) (cat : RustCatalogue) (p : Place) (e : Entry) (r : Result Place Fault) → Enters m p e r m' → Appends m cat p e r m'
 enters_at_once m m' cat p e r enters ready fits = enters (catalogue_of cat) ready.lit ready.backed fits

@@ -16,7 +16,7 @@ use Rattle.journal.specs.Backed.{Sets, Old, Backed}
 use Rattle.journal.specs.Steps.{alone, Put, SettledWith, CutWith, Clear, Cleared, NotCleared, InHalves, zeros, DataKept, CardSized}
 use Rattle.journal.specs.View.{start_of, half_with, place_of, standing_of, BackedBy}
 use Rattle.journal.specs.Appends.{LabelPut}
-use Rattle.journal.specs.Formats.{NewCard, FormatCut, EmptyCard, LayingOut, Laid_out, DataFound, Formatted}
+use Rattle.journal.specs.Formats.{NewCard, FormatCut, EmptyCard, LayingOut, LaidOut, DataFound, Formatted}
 use Rattle.journal.specs.declared.formatting.FormatError.TheVariants.{Failed}
 use Rattle.journal.specs.declared.place.Place.{Place}
 use Rattle.journal.specs.declared.place.Side.{Side}
@@ -60,7 +60,7 @@ new_place p first used = ap (λ k. record { first = k; used = p.used }) first �
 
 module _ (m : Meaning) (n : ℕ) (m₁ : Meaning) where
   -- The label on its way to zeros.
-  pub unlabel_fails : (fault : Fault) → Put m 0 zeros (Err fault) m₁ → Laid_out m n (Err fault) m₁
+  pub unlabel_fails : (fault : Fault) → Put m 0 zeros (Err fault) m₁ → LaidOut m n (Err fault) m₁
   unlabel_fails Dark put = λ fits.
       let cut = put fits.0 in
       let low : 0 < m.blocks = omega (arith, fits.1, fits.2) in (
@@ -75,7 +75,7 @@ module _ (m : Meaning) (n : ℕ) (m₁ : Meaning) where
 
   module _ (u : Unit {0}) (unlabelled : Put m 0 zeros (Ok u) m₁) (m₂ : Meaning) where
     -- The halves on their way to zeros, under no label.
-    pub clear_fails : (fault : Fault) → Clear m₁ (Err fault) m₂ → Laid_out m n (Err fault) m₂
+    pub clear_fails : (fault : Fault) → Clear m₁ (Err fault) m₂ → LaidOut m n (Err fault) m₂
     clear_fails Dark clear = λ fits.
         let one = unlabelled fits.0 in
         let two = clear one.light in
@@ -101,7 +101,7 @@ module _ (m : Meaning) (n : ℕ) (m₁ : Meaning) where
           let one = unlabelled fits.0 in
           kept_more m m₁ m₂ one.light (settled_kept m m₁ 0 zeros (omega arith) one) (cleared_kept m₁ m₂ (halves one.light))
 
-      pub label_fails : (fault : Fault) → LabelPut m₂ n p 0 (Err fault) m₃ → Laid_out m n (Err fault) m₃
+      pub label_fails : (fault : Fault) → LabelPut m₂ n p 0 (Err fault) m₃ → LaidOut m n (Err fault) m₃
       label_fails Dark put = λ fits.
           let one = unlabelled fits.0 in
           let two = halves one.light in
@@ -131,7 +131,7 @@ module _ (m : Meaning) (n : ℕ) (m₁ : Meaning) where
           let two = halves one.light in
           omega (arith, put.1.1 two.light, two.size, one.size, fits.1, fits.2)
 
-      pub laid_out : (w : Unit {0}) → LabelPut m₂ n p 0 (Ok w) m₃ → Laid_out m n (Ok p) m₃
+      pub laid_out : (w : Unit {0}) → LabelPut m₂ n p 0 (Ok w) m₃ → LaidOut m n (Ok p) m₃
       laid_out w put = λ fits.
           let one = unlabelled fits.0 in
           let two = halves one.light in
@@ -163,25 +163,16 @@ found_kept m m₁ m₂ restarted kept = record {
 }
 
 -- The format, from its restart on.
-module _ (m m₁ m₂ : Meaning) (n : ℕ) (c : Catalogue) (restarted : Restarted m m₁) (same : n ≡ m₁.blocks) (low : 130 ≤ n) (high : n ≤ 65536) where
+module _ (m m₁ m₂ : Meaning) (n : ℕ) (restarted : Restarted m m₁) (same : n ≡ m₁.blocks) (low : 130 ≤ n) (high : n ≤ 65536) where
   sized : CardSized m
   sized = let size : n ≡ m.blocks = same ∙ restarted.size in (omega arith, omega arith)
 
-  pub format_stands : (d : Catalogue) (p : Place) → catalogue_of d ≡ nothing → d.blocks ≡ n → Laid_out m₁ n (Ok p) m₂ → Formatted m c (Ok p) m₂ d
-  format_stands d p none blocks laid =
-      let done = laid (restarted.light, same, low, high) in
-      let card = done.0 in (
-        sized,
-        record {
-          lit = card.lit;
-          blocks = blocks ∙ (same ∙ sym done.1.size);
-          backed = subst (λ (cat : plain.Catalogue). BackedBy m₂.blocks m₂.may p cat) (sym none) card.backed;
-        },
-        ap (λ cat. record { catalogue = cat; place = place_of p }) none ∙ ap (λ t. record { catalogue = nothing; place = t }) card.place,
-        found_kept m m₁ m₂ restarted done.1,
-      )
+  pub format_stands : (p : Place) → LaidOut m₁ n (Ok p) m₂ → Formatted m (Ok p) m₂
+  format_stands p laid =
+      let done = laid (restarted.light, same, low, high) in (sized.0, sized.1, done.0, found_kept m m₁ m₂ restarted done.1)
 
-  pub format_fails : (fault : Fault) → Laid_out m₁ n (Err fault) m₂ → Formatted m c (Err (Failed fault)) m₂ c
+  pub format_fails : (fault : Fault) → LaidOut m₁ n (Err fault) m₂ → Formatted m (Err (Failed fault)) m₂
   format_fails Dark laid =
-      let cut = laid (restarted.light, same, low, high) in (refl, sized, cut.0, found_kept m m₁ m₂ restarted cut.1, cut_since m m₁ m₂ restarted cut.2)
+      let cut = laid (restarted.light, same, low, high) in
+      (sized.0, sized.1, cut.0, found_kept m m₁ m₂ restarted cut.1, cut_since m m₁ m₂ restarted cut.2)
   format_fails NoBlock laid = laid (restarted.light, same, low, high)

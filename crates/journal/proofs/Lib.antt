@@ -6,3 +6,4 @@ pub mod Steps
 pub mod Changes
 pub mod Enterings
 pub mod Layouts
+pub mod Keepings

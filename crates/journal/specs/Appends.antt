@@ -8,8 +8,8 @@ use Rattle.model.specs.Fits.{Fits, after}
 use Rattle.model.specs.Listing.{listing}
 use Rattle.model.specs.Standing as model
 use Rattle.model.specs.Standing.{next_number}
-use Rattle.catalogue.specs.declared.catalogues.Catalogue.{Catalogue as Rust-catalogue}
-use Rattle.catalogue.specs.Whole.{Becomes, catalogue_of}
+use Rattle.catalogue.specs.declared.catalogues.Catalogue.{Catalogue as RustCatalogue}
+use Rattle.catalogue.specs.Whole.{catalogue_of}
 use Rattle.card.specs.Label.{Half, Labels}
 use Rattle.journal.specs.Blocks.{no_entry}
 use Rattle.journal.specs.Backed.{Sets, other, IsEntry, next_half, Backed}
@@ -17,7 +17,7 @@ use Rattle.journal.specs.Steps.{Put, Found, DataKept, BeforeOrAfter}
 use Rattle.journal.specs.View.{start_of, half_with, place_of, standing_of, BackedBy}
 use Rattle.journal.specs.declared.place.Place.{Place}
 use Rattle.journal.specs.declared.appending.AppendError.{AppendError}
-use Rattle.journal.specs.declared.appending.AppendError.TheVariants.{Unfit, NumbersSpent, Failed}
+use Rattle.journal.specs.declared.appending.AppendError.TheVariants.{NumbersSpent, Failed}
 
 -- A block that is the entry is written at its position and settled.
 abbrev pub EntryPut : Meaning → Place → ℕ → Entry → Result Unit Fault → Meaning → Type 0
@@ -50,22 +50,22 @@ abbrev pub InEitherHalf : model.Standing → model.Standing → Type 0
 InEitherHalf s t = (t ≡ s) ⊎ (t ≡ model.moved s)
 
 -- The disk is lit and the card backed by the code's catalogue, which is made for as many blocks, at this place.
-pub record Ready (m : Meaning) (cat : Rust-catalogue) (p : Place) : Type 0 where
+pub record Ready (m : Meaning) (cat : RustCatalogue) (p : Place) : Type 0 where
   pub lit : m.lit ≡ true
   pub blocks : cat.blocks ≡ m.blocks
   pub backed : BackedBy m.blocks m.may p (catalogue_of cat)
 
-pub record ChangedDone (m : Meaning) (cat : Rust-catalogue) (p p' : Place) (m' : Meaning) : Type 0 where
+pub record ChangedDone (m : Meaning) (cat : RustCatalogue) (p p' : Place) (m' : Meaning) : Type 0 where
   pub ready : Ready m' cat p'
   pub kept : DataKept m m'
   pub moved : standing_of (catalogue_of cat) p' ≡ model.moved (standing_of (catalogue_of cat) p)
 
-pub record ChangedCut (m : Meaning) (cat : Rust-catalogue) (p : Place) (m' : Meaning) : Type 0 where
+pub record ChangedCut (m : Meaning) (cat : RustCatalogue) (p : Place) (m' : Meaning) : Type 0 where
   pub dark : m'.lit ≡ false
   pub kept : DataKept m m'
   pub found : Found m' (InEitherHalf (standing_of (catalogue_of cat) p))
 
-abbrev pub Changed : Meaning → Rust-catalogue → Place → Result Place Fault → Meaning → Type 0
+abbrev pub Changed : Meaning → RustCatalogue → Place → Result Place Fault → Meaning → Type 0
 Changed m cat p (Ok p') m' = Ready m cat p → p.used ≡ 64 → p.first + 64 ≤ 2 ^ 62 - 128 → ChangedDone m cat p p' m'
 Changed m cat p (Err Dark) m' = Ready m cat p → p.used ≡ 64 → p.first + 64 ≤ 2 ^ 62 - 128 → ChangedCut m cat p m'
 Changed m cat p (Err NoBlock) m' = Ready m cat p → p.used ≡ 64 → p.first + 64 ≤ 2 ^ 62 - 128 → ⊥
@@ -92,34 +92,11 @@ AppendTo m cat p e (Err NoBlock) m' = ⊥
 abbrev pub Enters : Meaning → Place → Entry → Result Place Fault → Meaning → Type 0
 Enters m p e r m' = (cat : Catalogue) → m.lit ≡ true → BackedBy m.blocks m.may p cat → Fits m.blocks cat e → AppendTo m cat p e r m'
 
-abbrev pub Appends : Meaning → Rust-catalogue → Place → Entry → Result Place Fault → Meaning → Type 0
+abbrev pub Appends : Meaning → RustCatalogue → Place → Entry → Result Place Fault → Meaning → Type 0
 Appends m cat p e r m' = Ready m cat p → Fits m.blocks (catalogue_of cat) e → AppendTo m (catalogue_of cat) p e r m'
 
--- Done, the catalogue and the place have moved on with the card.
-pub record Entered (m : Meaning) (c : Rust-catalogue) (p : Place) (e : Entry) (m' : Meaning) (d : Rust-catalogue) (p' : Place) : Type 0 where
-  pub ready : Ready m' d p'
-  pub kept : DataKept m m'
-  pub standing : standing_of (catalogue_of d) p' ≡ model.entered (standing_of (catalogue_of c) p) e
-
--- The disk failed: it is dark, and a restart finds the catalogue before or after the entry.
-abbrev pub Broken : Meaning → Rust-catalogue → Place → Entry → Fault → Meaning → Type 0
-Broken m c p e Dark m' = Ready m c p → AppendCut m (catalogue_of c) p e m'
-Broken m c p e NoBlock m' = Ready m c p → ⊥
-
--- An entry that fits, with a number that leaves room.
-abbrev pub Fitting : Rust-catalogue → Entry → Type 0
-Fitting c e = Fits c.blocks (catalogue_of c) e
-
-abbrev pub Numbered : Place → Type 0
-Numbered p = next_number (place_of p) ≤ 2 ^ 62 - 128
-
--- The whole call. Refused where the entry does not fit or the numbers are spent; and whatever it is refused for, catalogue and place are as they were.
-abbrev pub Appended : Meaning → Rust-catalogue → Place → Entry → Result Unit AppendError → Meaning → Rust-catalogue → Place → Type 0
-Appended m c p e (Ok _) m' d p' = Fitting c e × Numbered p × Becomes c e d × (Ready m c p → Entered m c p e m' d p')
-Appended m c p e (Err Unfit) m' d p' = (Fitting c e → ⊥) × (d ≡ c) × (p' ≡ p)
-Appended m c p e (Err NumbersSpent) m' d p' = Fitting c e × (Numbered p → ⊥) × (d ≡ c) × (p' ≡ p)
-Appended m c p e (Err (Failed fault)) m' d p' = Fitting c e × Numbered p × (d ≡ c) × (p' ≡ p) × Broken m c p e fault m'
-
--- What is refused before anything is written.
-abbrev pub Unwritten : Result Unit AppendError → Type 0
-Unwritten r = (r ≡ Err Unfit) ⊎ (r ≡ Err NumbersSpent)
+-- The whole call: refused where the numbers are spent, and then the place is as it was.
+abbrev pub Appended : Meaning → RustCatalogue → Place → Entry → Result Unit AppendError → Meaning → Place → Type 0
+Appended m cat p e (Ok _) m' p' = (next_number (place_of p) ≤ 2 ^ 62 - 128) × Appends m cat p e (Ok p') m'
+Appended m cat p e (Err NumbersSpent) m' p' = (2 ^ 62 - 128 < next_number (place_of p)) × (p' ≡ p)
+Appended m cat p e (Err (Failed fault)) m' p' = (next_number (place_of p) ≤ 2 ^ 62 - 128) × (p' ≡ p) × Appends m cat p e (Err fault) m'

@@ -5,14 +5,11 @@ use Rattle.disk.specs.declared.Fault.TheVariants.{Dark, NoBlock}
 use Rattle.disk.specs.Meaning.{Meaning, Choice, Restarted}
 use Rattle.model.specs.Plain.{nothing}
 use Rattle.model.specs.Standing.{Standing}
-use Rattle.catalogue.specs.declared.catalogues.Catalogue.{Catalogue}
-use Rattle.catalogue.specs.Whole.{catalogue_of}
 use Rattle.card.specs.Label.{Half}
 use Rattle.journal.specs.Backed.{Backed}
 use Rattle.journal.specs.Blocks.{Blocks}
-use Rattle.journal.specs.Steps.{alone, zeros, DataKept, CardSized}
-use Rattle.journal.specs.Appends.{Ready}
-use Rattle.journal.specs.View.{place_of, standing_of, BackedBy}
+use Rattle.journal.specs.Steps.{alone, zeros, DataKept}
+use Rattle.journal.specs.View.{place_of, BackedBy}
 use Rattle.journal.specs.declared.place.Place.{Place}
 use Rattle.journal.specs.declared.formatting.FormatError.{FormatError}
 use Rattle.journal.specs.declared.formatting.FormatError.TheVariants.{WrongSize, Failed}
@@ -39,10 +36,10 @@ FormatCut m m' = (f : Blocks) → Choice m' f → Choice m f ⊎ ((f 0 ≡ zeros
 abbrev pub LayingOut : Meaning → ℕ → Type 0
 LayingOut m n = (m.lit ≡ true) × (n ≡ m.blocks) × (130 ≤ n) × (n ≤ 65536)
 
-abbrev pub Laid_out : Meaning → ℕ → Result Place Fault → Meaning → Type 0
-Laid_out m n (Ok p) m' = LayingOut m n → EmptyCard m' p × DataKept m m'
-Laid_out m n (Err Dark) m' = LayingOut m n → (m'.lit ≡ false) × DataKept m m' × FormatCut m m'
-Laid_out m n (Err NoBlock) m' = LayingOut m n → ⊥
+abbrev pub LaidOut : Meaning → ℕ → Result Place Fault → Meaning → Type 0
+LaidOut m n (Ok p) m' = LayingOut m n → EmptyCard m' p × DataKept m m'
+LaidOut m n (Err Dark) m' = LayingOut m n → (m'.lit ≡ false) × DataKept m m' × FormatCut m m'
+LaidOut m n (Err NoBlock) m' = LayingOut m n → ⊥
 
 -- The data, from block 129 on, is as a restart found it.
 pub record DataFound (m m' : Meaning) : Type 0 where
@@ -50,9 +47,8 @@ pub record DataFound (m m' : Meaning) : Type 0 where
   pub gains : (k : ℕ) (y : List ℕ) → 129 ≤ k → k < m.blocks → m'.may k y → m.may k y
   pub comes : m'.lit ≡ true → (k : ℕ) → 129 ≤ k → k < m.blocks → m.may k (m'.present k)
 
--- Done, the card and the catalogue are empty, and ready for the first entry. Whatever it is refused for, the catalogue is as it was.
-abbrev pub Formatted : Meaning → Catalogue → Result Place FormatError → Meaning → Catalogue → Type 0
-Formatted m c (Ok p) m' d = CardSized m × Ready m' d p × (standing_of (catalogue_of d) p ≡ new_standing) × DataFound m m'
-Formatted m c (Err WrongSize) m' d = (d ≡ c) × ((m.blocks < 130) ⊎ (65536 < m.blocks)) × Restarted m m'
-Formatted m c (Err (Failed Dark)) m' d = (d ≡ c) × CardSized m × (m'.lit ≡ false) × DataFound m m' × FormatCut m m'
-Formatted m c (Err (Failed NoBlock)) m' d = ⊥
+abbrev pub Formatted : Meaning → Result Place FormatError → Meaning → Type 0
+Formatted m (Ok p) m' = (130 ≤ m.blocks) × (m.blocks ≤ 65536) × EmptyCard m' p × DataFound m m'
+Formatted m (Err WrongSize) m' = ((m.blocks < 130) ⊎ (65536 < m.blocks)) × Restarted m m'
+Formatted m (Err (Failed Dark)) m' = (130 ≤ m.blocks) × (m.blocks ≤ 65536) × (m'.lit ≡ false) × DataFound m m' × FormatCut m m'
+Formatted m (Err (Failed NoBlock)) m' = ⊥

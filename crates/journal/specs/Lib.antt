@@ -4,3 +4,4 @@ pub mod Steps
 pub mod View
 pub mod Appends
 pub mod Formats
+pub mod Keeps

@@ -1,7 +1,7 @@
 // Entries appended to the journal, with the change of halves where the half in use is full.
 ghost use Rattle.std.specs.Prelude.{◌≡◌, ◌+◌, ◌-◌, ◌^◌, ◌<◌, ◌≤◌, length, IfOk, slice_index_or};
 ghost use Rattle.catalogue.specs.Whole.{catalogue_of};
-ghost use Rattle.journal.specs.Appends.{Appended, Appends, Changed, Enters, EntryPut, LabelPut, ListingPut, Unwritten};
+ghost use Rattle.journal.specs.Appends.{Appended, Appends, Changed, Enters, EntryPut, LabelPut, ListingPut};
 ghost use Rattle.journal.specs.Blocks.{no_entry};
 ghost use Rattle.model.specs.Listing.{listing};
 ghost use Rattle.records.specs.View.{entry_of};
@@ -17,10 +17,9 @@ use records::Entry;
 // The greatest number of an entry that may still be appended: a change of halves after it leaves room below the label's limit.
 const LAST_NUMBER: u64 = (1 << 62) - 128;
 
-// Why an entry was not appended: it does not fit the catalogue, the journal's numbers are spent, or the disk failed.
+// Why an entry was not appended: the journal's numbers are spent, or the disk failed.
 #[derive(Clone, Copy)]
 pub enum AppendError {
-    Unfit,
     NumbersSpent,
     Failed(Fault),
 }
@@ -130,25 +129,21 @@ fn append_at<D: Disk>(
     enter(disk, &next, entry)
 }
 
-// Appends the entry to the journal, applies it to the catalogue and moves the place on. A refusal leaves catalogue and place as they are.
+// Appends the entry to the journal of the catalogue and moves the place on. A failure leaves the place as it is.
 pub fn append<D: Disk>(
     disk: &mut D,
-    catalogue: &mut Catalogue,
+    catalogue: &Catalogue,
     place: &mut Place,
     entry: &Entry,
 ) -> Result<(), AppendError>
-    ensures law { Appended (D.Disk.means disk.old) catalogue.old place.old (entry_of entry.now) result (D.Disk.means disk.new) catalogue.new place.new }
-    ensures untouched { Unwritten result → disk.new ≡ disk.old }
+    ensures law { Appended (D.Disk.means disk.old) catalogue.now place.old (entry_of entry.now) result (D.Disk.means disk.new) place.new }
+    ensures untouched { result ≡ Err AppendError.NumbersSpent → disk.new ≡ disk.old }
 {
-    if !catalogue.fits(entry) {
-        return Err(AppendError::Unfit);
-    }
     if place.next_number() > LAST_NUMBER {
         return Err(AppendError::NumbersSpent);
     }
     match append_at(disk, catalogue, place, entry) {
         Ok(next) => {
-            let _ = catalogue.apply(entry);
             *place = next;
             Ok(())
         }

@@ -1,10 +1,9 @@
 // A card made new: an empty journal in the lower half.
-ghost use Rattle.journal.specs.Formats.{Formatted, Laid_out};
+ghost use Rattle.journal.specs.Formats.{Formatted, LaidOut};
 
 use crate::appending::put_label;
 use crate::place::{Place, Side};
 use crate::putting::{clear_halves, put};
-use catalogue::Catalogue;
 use disk::{Disk, Fault};
 
 // Why a card was not formatted: its number of blocks is none that a card has, or the disk failed.
@@ -16,7 +15,7 @@ pub enum FormatError {
 
 // Clears the label, then both halves, then writes a label for the lower half, each stage settled before the next.
 fn lay_out<D: Disk>(disk: &mut D, blocks: u32) -> Result<Place, Fault>
-    ensures { Laid_out (D.Disk.means disk.old) blocks result (D.Disk.means disk.new) }
+    ensures { LaidOut (D.Disk.means disk.old) blocks result (D.Disk.means disk.new) }
 {
     put(disk, 0, &[0; 256])?;
     clear_halves(disk)?;
@@ -29,9 +28,9 @@ fn lay_out<D: Disk>(disk: &mut D, blocks: u32) -> Result<Place, Fault>
     Ok(place)
 }
 
-// Restarts the disk, makes its card new and empties the catalogue. A card has 130 to 65,536 blocks.
-pub fn format<D: Disk>(disk: &mut D, catalogue: &mut Catalogue) -> Result<Place, FormatError>
-    ensures { Formatted (D.Disk.means disk.old) catalogue.old result (D.Disk.means disk.new) catalogue.new }
+// Restarts the disk and makes its card new. A card has 130 to 65,536 blocks.
+pub fn format<D: Disk>(disk: &mut D) -> Result<Place, FormatError>
+    ensures { Formatted (D.Disk.means disk.old) result (D.Disk.means disk.new) }
 {
     disk.restart();
     let blocks = disk.size();
@@ -39,10 +38,7 @@ pub fn format<D: Disk>(disk: &mut D, catalogue: &mut Catalogue) -> Result<Place,
         return Err(FormatError::WrongSize);
     }
     match lay_out(disk, blocks as u32) {
-        Ok(place) => {
-            catalogue.clear(blocks as u32);
-            Ok(place)
-        }
+        Ok(place) => Ok(place),
         Err(fault) => Err(FormatError::Failed(fault)),
     }
 }

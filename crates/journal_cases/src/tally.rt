@@ -4,8 +4,8 @@ use std::fmt;
 
 #[derive(Clone, Copy)]
 pub(crate) struct Tally {
-    pub(crate) in_format: u32,
     uncut: u32,
+    in_format: u32,
     before: u32,
     after: u32,
     neither: u32,
@@ -14,8 +14,8 @@ pub(crate) struct Tally {
 impl Tally {
     pub(crate) fn new() -> Tally {
         Tally {
-            in_format: 0,
             uncut: 0,
+            in_format: 0,
             before: 0,
             after: 0,
             neither: 0,
@@ -24,10 +24,10 @@ impl Tally {
 
     pub(crate) fn count(&mut self, ending: Ending) {
         match ending {
-            Ending::InFormat => self.in_format = self.in_format.saturating_add(1),
             Ending::Uncut => self.uncut = self.uncut.saturating_add(1),
-            Ending::Before(_) => self.before = self.before.saturating_add(1),
-            Ending::After(_) => self.after = self.after.saturating_add(1),
+            Ending::InFormat => self.in_format = self.in_format.saturating_add(1),
+            Ending::Before => self.before = self.before.saturating_add(1),
+            Ending::After => self.after = self.after.saturating_add(1),
             Ending::Neither => self.neither = self.neither.saturating_add(1),
         }
     }
@@ -36,12 +36,13 @@ impl Tally {
 impl fmt::Display for Tally {
     fn fmt<W: fmt::Write>(&self, f: &mut fmt::Formatter<W>) -> fmt::Result {
         let uncut = self.uncut;
+        let in_format = self.in_format;
         let before = self.before;
         let after = self.after;
         let neither = self.neither;
         write!(
             f,
-            "{uncut} uncut, {before} found as before, {after} found as after, {neither} found otherwise"
+            "{uncut} uncut, {in_format} cut in format, {before} found as before, {after} found as after, {neither} found otherwise"
         )
     }
 }

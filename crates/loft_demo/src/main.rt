@@ -1,11 +1,6 @@
-// One task at a cutting table, told as it goes: the table's list, the catalogue of its programs, and what a power cut leaves of a block and of the
-// journal on a card.
+// One task at a cutting table, told as it goes: the table's list, the catalogue of its programs, and what a power cut leaves of a block.
 #![tactic(auto)]
 
-mod card;
-mod cuts;
-mod journalled;
-mod paths;
 mod power;
 mod registry;
 mod table;
@@ -14,8 +9,7 @@ fn run(rt: &HostRuntime) -> anyhow::Result<()> {
     let mut programs = table::take(rt)?;
     table::tell_sorted(rt, &mut programs)?;
     registry::tell(rt, programs.as_slice())?;
-    power::tell(rt)?;
-    card::tell(rt, programs.as_slice())
+    power::tell(rt)
 }
 
 fn main(rt: HostRuntime) -> anyhow::Result<()> {

@@ -1,5 +1,4 @@
 // What a power cut leaves of a block: trials on a bench card behind write-behind, each with the reason why what it found was allowed.
-use crate::cuts::{ALL, Cut, NONE};
 use anyhow::anyhow;
 use bench_card::BenchCard;
 use trials::{Outcome, trial};
@@ -10,22 +9,16 @@ const OLD: u8 = b'A';
 
 const NEW: u8 = b'B';
 
+// In which operation of the card the power goes (in none if 0), and which blocks a restart keeps as they were written last.
+struct Cut {
+    at: u64,
+    kept: u32,
+}
+
 const CUTS: [Cut; 3] = [
-    Cut {
-        at: 3,
-        kept: NONE,
-        when: "in operation 3",
-    },
-    Cut {
-        at: 4,
-        kept: ALL,
-        when: "in operation 4",
-    },
-    Cut {
-        at: 0,
-        kept: NONE,
-        when: "after the barrier",
-    },
+    Cut { at: 3, kept: 0 },
+    Cut { at: 4, kept: 1 },
+    Cut { at: 0, kept: 0 },
 ];
 
 // Why a disk may be found so.
@@ -35,6 +28,14 @@ fn reason(outcome: Outcome) -> &'static str {
         (false, NEW) => "the barrier was cut, but the block had come to the card before",
         (false, _) => "the barrier was cut, so what was settled before may stand",
     }
+}
+
+fn tell_moment(rt: &HostRuntime, cut: &Cut) -> anyhow::Result<()> {
+    match cut.at {
+        0 => print!(rt; "  power cut after the barrier")?,
+        at => print!(rt; "  power cut in operation {at}")?,
+    }
+    Ok(())
 }
 
 // One trial on a card of its own.
@@ -48,8 +49,8 @@ fn tell_cut(rt: &HostRuntime, cut: &Cut) -> anyhow::Result<()> {
         Ok(outcome) => {
             let found = char::from(outcome.found);
             let why = reason(outcome);
-            let when = cut.when;
-            println!(rt; "  power cut {when}, found {found}: {why}")?;
+            tell_moment(rt, cut)?;
+            println!(rt; ", found {found}: {why}")?;
         }
         Err(fault) => println!(rt; "  refused: {fault:?}")?,
     }

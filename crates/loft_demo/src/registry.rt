@@ -1,14 +1,41 @@
 // The table's programs in a catalogue: three parts and the task that refers to them, a generation, a closure and a free run.
-use crate::paths::{BLOCKS, PART_SIZE, PROFILE, TASK_SIZE, commit_of, hashes_of, placed};
 use anyhow::anyhow;
 use catalogue::Catalogue;
 use naming::Hash;
 use programs::Program;
 use queries::{closure, free_run};
-use records::Entry;
+use records::{Entry, PathRecord, References};
+
+// The card's blocks, and the bytes of a part and of the task.
+const BLOCKS: u32 = 256;
+
+const PART_SIZE: u32 = 600;
+
+const TASK_SIZE: u32 = 2000;
 
 // The length of the run that is looked for at the end.
 const WANTED: u32 = 10;
+
+// The profile in which the task is committed.
+const PROFILE: u8 = 0;
+
+// The record of a program, its content in the last free run; none where there is no room or it has too many references.
+fn placed(
+    catalogue: &Catalogue,
+    program: &Program,
+    size: u32,
+    needed: &[Hash],
+) -> Option<PathRecord> {
+    let first = free_run(catalogue, &[], size.div_ceil(256))?;
+    let refs = References::from_slice(needed)?;
+    Some(PathRecord {
+        hash: program.hash,
+        name: program.name,
+        size,
+        first,
+        refs,
+    })
+}
 
 fn register(
     rt: &HostRuntime,
@@ -28,6 +55,14 @@ fn register(
     Ok(())
 }
 
+fn hashes_of(rt: &HostRuntime, programs: &[Program]) -> anyhow::Result<Vec<Hash>> {
+    let mut hashes = Vec::with_capacity(rt.alloc(), programs.len())?;
+    for program in programs {
+        hashes.push(program.hash)?;
+    }
+    Ok(hashes)
+}
+
 // Registers the parts, and after them the task that refers to all of them.
 fn register_all(
     rt: &HostRuntime,
@@ -42,12 +77,17 @@ fn register_all(
     for part in parts {
         register(rt, catalogue, part, PART_SIZE, &none)?;
     }
-    let needed = hashes_of(rt.alloc(), parts)?;
+    let needed = hashes_of(rt, parts)?;
     register(rt, catalogue, task, TASK_SIZE, needed.as_slice())
 }
 
 fn commit(rt: &HostRuntime, catalogue: &mut Catalogue, task: &Program) -> anyhow::Result<()> {
-    match catalogue.apply(&commit_of(task, 1)) {
+    let entry = Entry::Commit {
+        profile: PROFILE,
+        number: 1,
+        hash: task.hash,
+    };
+    match catalogue.apply(&entry) {
         Ok(_) => println!(rt; "Profile {PROFILE} has generation 1: {task}")?,
         Err(_) => println!(rt; "Profile {PROFILE} takes no generation 1")?,
     }

@@ -4,8 +4,8 @@ use Rattle.journal.proofs.formatting.format.Goals as goal
 
 pub returns-in-Ok : goal.returns-in-Ok
 returns-in-Ok g c =
-    format_stands _ _ _ c.size-blocks.result c.args.catalogue.now c.restart.ensures c.size-blocks.ensures.value (omega arith) (omega arith) c.clear.new.self c.in-Ok.place c.clear.ensures.0 c.clear.ensures.1 c.in-Ok.ensures
+    format_stands _ _ _ c.size-blocks.result c.restart.ensures c.size-blocks.ensures.value (omega arith) (omega arith) c.in-Ok.place c.in-Ok.ensures
 
 pub returns-in-Err : goal.returns-in-Err
 returns-in-Err g c =
-    format_fails _ _ _ c.size-blocks.result c.args.catalogue.now c.restart.ensures c.size-blocks.ensures.value (omega arith) (omega arith) c.in-Err.fault c.in-Err.ensures
+    format_fails _ _ _ c.size-blocks.result c.restart.ensures c.size-blocks.ensures.value (omega arith) (omega arith) c.in-Err.fault c.in-Err.ensures

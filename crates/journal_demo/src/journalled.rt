@@ -3,7 +3,7 @@ use crate::paths::BLOCKS;
 use anyhow::anyhow;
 use catalogue::Catalogue;
 use disk::Disk;
-use journal::{AppendError, Place, append, format};
+use journal::{EntryError, Place, append_and_apply, format_and_clear};
 use records::Entry;
 use recovery::recover;
 use std::alloc::Global;
@@ -29,7 +29,7 @@ impl Journalled {
     // Makes the disk's card new.
     pub(crate) fn formatted<D: Disk>(heap: Global, disk: &mut D) -> anyhow::Result<Journalled> {
         let mut catalogue = Catalogue::new(heap, BLOCKS)?;
-        match format(disk, &mut catalogue) {
+        match format_and_clear(disk, &mut catalogue) {
             Ok(place) => Ok(Journalled { catalogue, place }),
             Err(_) => Err(anyhow!("the card is not formatted")),
         }
@@ -49,8 +49,8 @@ impl Journalled {
         &mut self,
         disk: &mut D,
         entry: &Entry,
-    ) -> Result<(), AppendError> {
-        append(disk, &mut self.catalogue, &mut self.place, entry)
+    ) -> Result<(), EntryError> {
+        append_and_apply(disk, &mut self.catalogue, &mut self.place, entry)
     }
 
     pub(crate) fn summary(&self) -> Summary {
