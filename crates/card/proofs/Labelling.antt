@@ -1,5 +1,5 @@
 -- A block is the label for at most one half: the one that its fields name.
-use Rattle.std.proofs.Common.{◌≡◌, ℕ, List, Some, sym, ap, ◌∙◌, subst}
+use Rattle.std.proofs.Common.{◌≡◌, ℕ, List, sym, ◌∙◌, subst}
 use Rattle.card.specs.Fields.{began_with_field, card_size_field, first_number_field, get, half_field, label_mark, mark_field, read}
 use Rattle.card.specs.Label.{Half, InRange, Labels}
 use Rattle.card.specs.View.{half_of}

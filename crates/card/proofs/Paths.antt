@@ -1,9 +1,9 @@
 -- A path as it is written: field after field, each above those before it.
-use Rattle.std.proofs.Common.{◌≡◌, ℕ, ◌+◌, ◌*◌, ◌<◌, ◌≤◌, List, [], ◌∷◌, length, take, drop, ap, ◌∙◌, arith}
+use Rattle.std.proofs.Common.{◌≡◌, ℕ, ◌+◌, ◌*◌, ◌≤◌, List, [], ◌∷◌, length, take, drop, ◌∙◌, arith}
 use Rattle.std.proofs.lemmas.List.{take-take}
 use Rattle.model.specs.Plain.{Path, register}
-use Rattle.card.specs.Fields.{Zero, field, first_block_field, hash_field, kind_field, name_field, name_length_field, reference_count_field, reference_field, size_field}
-use Rattle.card.specs.Entries.{Clean, Says, SaysPath}
+use Rattle.card.specs.Fields.{Zero, field, first_block_field, hash_field, kind_field, name_length_field, reference_count_field, size_field}
+use Rattle.card.specs.Entries.{Clean, Says}
 use Rattle.card.specs.Written.{Wrote, Wrote-hashes, WroteNumber}
 use Rattle.card.proofs.Writes.{as_wide, below_both, field_below, one_byte, read_below, zero_below, zero_less, zero_past}
 

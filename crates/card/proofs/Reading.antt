@@ -7,7 +7,7 @@ use Rattle.naming.specs.Texts.{name_text}
 use Rattle.naming.specs.declared.hash.Hash.{Hash}
 use Rattle.naming.specs.declared.name.Name.{Name}
 use Rattle.records.specs.View.{bytes_of}
-use Rattle.card.specs.Fields.{field, get, name_field, name_length_field, read, reference_count_field}
+use Rattle.card.specs.Fields.{field, get, name_field, read}
 use Rattle.card.specs.View.{SaysName, Says-references}
 
 -- A byte as a field.

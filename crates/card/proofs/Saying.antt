@@ -1,12 +1,11 @@
 -- A block says at most one entry, and which entries a decoder has to read.
-use Rattle.std.proofs.Common.{◌≡◌, ℕ, ◌+◌, ◌*◌, ◌<◌, cond, eqb, List, [], map, length, get_or, take, Some, None, Option, sym, refl, ap, ◌∙◌, ap₂, arith, MatchOption}
+use Rattle.std.proofs.Common.{◌≡◌, ℕ, cond, eqb, List, [], map, length, take, Some, None, Option, sym, refl, ap, ◌∙◌, ap₂, arith, MatchOption}
 use Rattle.std.proofs.lemmas.List.FromFn.{fill_by_all}
-use Rattle.std.proofs.lemmas.List.{length-map}
 use Rattle.std.specs.List.{range_with_len}
 use Rattle.model.specs.Fits.{Fits}
 use Rattle.model.specs.Plain as plain
 use Rattle.model.specs.Plain.{register, commit, switch, forget, remove}
-use Rattle.records.specs.View.{bytes_of, entry_of, listed}
+use Rattle.records.specs.View.{entry_of}
 use Rattle.records.specs.declared.records.Entry.{Entry}
 use Rattle.records.specs.declared.records.Entry.TheVariants.{Register, Commit, Switch, Forget, Remove}
 use Rattle.card.specs.Fields.{committed_field, first_block_field, generation_field, get, hash_field, kind_field, name_field, name_length_field, profile_field, read, reference_count_field, reference_field, size_field}

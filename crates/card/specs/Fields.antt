@@ -1,5 +1,5 @@
 -- The fields of a block: each one's place and width, stated once. Writing and reading are both held to them.
-use Rattle.std.specs.Prelude.{◌≡◌, ℕ, ◌+◌, ◌*◌, ◌<◌, ◌≤◌, List, length, take, drop, codes, slice_index}
+use Rattle.std.specs.Prelude.{◌≡◌, ℕ, ◌+◌, ◌*◌, ◌<◌, ◌≤◌, List, take, drop, codes, slice_index}
 use Rattle.naming.specs.Digits.{value}
 
 -- A field begins at a byte of the block and has a number of bytes.

@@ -1,6 +1,6 @@
 -- What a write to a field of a block leaves.
 use Rattle.std.specs.Prelude.{◌≡◌, ℕ, ◌+◌, ◌*◌, ◌<◌, List, [], length, take, drop, slice_index_or}
-use Rattle.card.specs.Fields.{Field, field, get, read, reference_field}
+use Rattle.card.specs.Fields.{Field, get, read, reference_field}
 
 -- The bytes below one place and from another on are as before.
 pub record Kept (from to : ℕ) (before after : List ℕ) : Type 0 where

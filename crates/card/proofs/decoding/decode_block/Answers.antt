@@ -5,16 +5,16 @@ use Rattle.card.proofs.Reading.{after_kind, byte_read}
 use Rattle.card.proofs.Saying.{no_path}
 use Rattle.card.proofs.decoding.decode_block.Goals as goal
 
-pub returns-in_err-decode_path : goal.returns-in_err-decode_path
-returns-in_err-decode_path c =
+pub returns-in_err-decode_path-in-1 : goal.returns-in_err-decode_path-in-1
+returns-in_err-decode_path-in-1 c =
     let block = c.args.block.now in
     subst (Decodes block) (sym c.from_residual.ensures)
-    (no_path block (byte_read block 0 (omega arith) ∙ c.in-1.is) (c.in_err-decode_path.ensures block (sym (take_rest block 1))))
+    (no_path block (byte_read block 0 (omega arith) ∙ c.in-1.is) (c.in_err-decode_path-in-1.ensures block (sym (take_rest block 1))))
 
-pub returns-in_ok-decode_path : goal.returns-in_ok-decode_path
-returns-in_ok-decode_path c =
+pub returns-in_ok-decode_path-in-1 : goal.returns-in_ok-decode_path-in-1
+returns-in_ok-decode_path-in-1 c =
     let block = c.args.block.now in
-    (byte_read block 0 (omega arith) ∙ c.in-1.is, c.in_ok-decode_path.ensures block (sym (take_rest block 1)))
+    (byte_read block 0 (omega arith) ∙ c.in-1.is, c.in_ok-decode_path-in-1.ensures block (sym (take_rest block 1)))
 
 pub returns-in-2 : goal.returns-in-2
 returns-in-2 c =

@@ -1,4 +1,4 @@
-use Rattle.std.proofs.Common.{[], ◌∷◌, replicate, ◌∙◌, arith}
+use Rattle.std.proofs.Common.{replicate, ◌∙◌, arith}
 use Rattle.card.specs.Fields.{kind_field, profile_field}
 use Rattle.card.proofs.Writes.{below_both, one_byte, read_below, zero_blank, zero_less, zero_past}
 use Rattle.card.proofs.encoding.generation_fields.Goals as goal

@@ -1,4 +1,5 @@
 use Rattle.std.proofs.Common.{sym, ◌∙◌, eq-eqb, eqb-true}
+use Rattle.std.proofs.lemmas.Bool.Decides.{Decides-eqb}
 use Rattle.std.proofs.lemmas.Slice.Eq.{slice_eq-Decides}
 use Rattle.card.proofs.trailer.counts.Goals as goal
 
@@ -7,7 +8,7 @@ returns-then-end-back c = (
   λ t. record {
     number = sym c.u64_at.ensures ∙ eqb-true _ _ t;
     back = sym c.read_ending-end.ensures.back ∙ c.if-end-back.true.1;
-    mark = sym c.read_ending-end.ensures.mark ∙ (slice_eq-Decides _ _ _ c.eq.ensures).0 c.if-end-back.true.0;
+    mark = sym c.read_ending-end.ensures.mark ∙ (slice_eq-Decides Decides-eqb _ _ _ c.eq.ensures).0 c.if-end-back.true.0;
   },
   λ m. eq-eqb _ _ (c.u64_at.ensures ∙ m.number),
 )
