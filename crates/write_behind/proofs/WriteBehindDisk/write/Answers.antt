@@ -1,4 +1,4 @@
-use Rattle.std.proofs.Common.{sym, refl, inl, inr}
+use Rattle.std.proofs.Common.{refl, inl, inr}
 use Rattle.write_behind.proofs.Layers.{written_replaced, written_added, written_shifted, torn_shifted}
 use Rattle.write_behind.proofs.Orders.{orderly_replaced, orderly_added, orderly_rest, orderly_same}
 use Rattle.write_behind.proofs.WriteBehindDisk.write.Goals as goal
@@ -6,14 +6,14 @@ use Rattle.write_behind.proofs.WriteBehindDisk.write.Goals as goal
 pub returns-then-replace : goal.returns-then-replace
 returns-then-replace g c =
     let m = g.D.Disk.means c.args.self.now.below in
-    let read = c.in-ok-read.ensures in
+    let read = c.in_ok-read.ensures in
     let told = c.if-replace.ensures in
     record { meaning = written_replaced m _ _ _ c.args.from.now read.0 read.1 told; order = inl (refl, told); orderly = λ o. orderly_replaced _ _ c.args.from.now _ _ read.1 o told }
 
 pub returns-in-None : goal.returns-in-None
 returns-in-None g c =
     let m = g.D.Disk.means c.args.self.now.below in
-    let read = c.in-ok-read.ensures in
+    let read = c.in_ok-read.ensures in
     let told = c.if-replace.ensures in
     let few = rw told.1 at c.in-None.ensures in
     let added = rw told.1 at c.hold.ensures in
@@ -22,7 +22,7 @@ returns-in-None g c =
 pub returns-then-not-send : goal.returns-then-not-send
 returns-then-not-send g c =
     let m = g.D.Disk.means c.args.self.now.below in
-    let read = c.in-ok-read.ensures in
+    let read = c.in_ok-read.ensures in
     let told = c.if-replace.ensures in
     let full = rw told.1 at c.in-Some.ensures in
     let stop = c.if-not-send.ensures in
@@ -36,7 +36,7 @@ returns-then-not-send g c =
 pub returns-else-not-send : goal.returns-else-not-send
 returns-else-not-send g c =
     let m = g.D.Disk.means c.args.self.now.below in
-    let read = c.in-ok-read.ensures in
+    let read = c.in_ok-read.ensures in
     let told = c.if-replace.ensures in
     let full = rw told.1 at c.in-Some.ensures in
     let sent = c.if-not-send.ensures in
