@@ -1,9 +1,9 @@
 -- A bench card is a disk.
-use Rattle.std.proofs.Common.{◌≡◌, ℕ, ◌+◌, ◌*◌, ◌/◌, ◌<◌, ◌≤◌, min, Bool, true, false, cond, not, ◌⊎◌, List, length, Ok, Err, Result, sym, refl, ap, ◌∙◌, inl, inr, arith}
+use Rattle.std.proofs.Common.{◌≡◌, ℕ, ◌+◌, ◌/◌, ◌<◌, min, Bool, true, false, cond, not, ◌⊎◌, List, length, Ok, Err, Result, sym, refl, ap, ◌∙◌, inl, inr, arith}
 use native.Mathlib.Decide.{ℕ_discrete}
 use Rattle.disk.specs.declared.Fault.{Fault}
 use Rattle.disk.specs.declared.Fault.TheVariants.{Dark}
-use Rattle.disk.specs.Meaning.{Block, Meaning, Sound, Write, Written, Torn, GainsOnly, GainsNone, Settled, Restarted}
+use Rattle.disk.specs.Meaning.{Block, Sound, Write, Written, Torn, GainsOnly, GainsNone, Settled, Restarted}
 use Rattle.disk.specs.Row.{blocks_in, block_of, with_block}
 use Rattle.disk.proofs.Rows.{block_whole, with_length, with_here, with_other}
 use Rattle.bench_card.specs.declared.supply.Supply.{Supply}

@@ -1,7 +1,6 @@
 -- Blocks copied one after the other within a row.
-use Rattle.std.proofs.Common.{◌≡◌, ℕ, ◌+◌, ◌*◌, ◌<◌, ◌≤◌, Bool, true, false, cond, List, length, drop, sym, refl, ap, ◌∙◌, arith}
-use native.Mathlib.Decide.{dec_lt, ℕ_discrete}
-use Rattle.disk.specs.Meaning.{Block}
+use Rattle.std.proofs.Common.{◌≡◌, ℕ, ◌+◌, ◌*◌, ◌<◌, ◌≤◌, true, false, List, length, drop, sym, refl, ap, ◌∙◌, arith}
+use native.Mathlib.Decide.{ℕ_discrete}
 use Rattle.disk.specs.Row.{blocks_in, block_of, with_block}
 use Rattle.disk.proofs.Rows.{block_whole, with_length, with_here, with_other, with_past}
 use Rattle.bench_card.specs.Card.{Laid, Reverted, keeps, found}

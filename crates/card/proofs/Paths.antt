@@ -4,7 +4,7 @@ use Rattle.std.proofs.lemmas.List.{take-take}
 use Rattle.model.specs.Plain.{Path, register}
 use Rattle.card.specs.Fields.{Zero, field, first_block_field, hash_field, kind_field, name_length_field, reference_count_field, size_field}
 use Rattle.card.specs.Entries.{Clean, Says}
-use Rattle.card.specs.Written.{Wrote, Wrote-hashes, WroteNumber}
+use Rattle.card.specs.Written.{Wrote, WroteHashes, WroteNumber}
 use Rattle.card.proofs.Writes.{as_wide, below_both, field_below, one_byte, read_below, zero_below, zero_less, zero_past}
 
 module _
@@ -20,7 +20,7 @@ module _
     (size : WroteNumber (field 46 4) p.size four five)
     (first_block : WroteNumber (field 50 4) p.first five six)
     (reference_count : Wrote (field 54 1) (length p.refs ∷ []) six seven)
-    (references : Wrote-hashes p.refs seven eight) where
+    (references : WroteHashes p.refs seven eight) where
   -- What stands below a field is as it was when all that follows is written.
   from_seven : take 55 eight ≡ take 55 seven
   from_seven = references.kept.below

@@ -8,7 +8,7 @@ use Rattle.naming.specs.declared.hash.Hash.{Hash}
 use Rattle.naming.specs.declared.name.Name.{Name}
 use Rattle.records.specs.View.{bytes_of}
 use Rattle.card.specs.Fields.{field, get, name_field, read}
-use Rattle.card.specs.View.{SaysName, Says-references}
+use Rattle.card.specs.View.{SaysName, SaysReferences}
 
 -- A byte as a field.
 pub byte_read : (xs : List ℕ) (at : ℕ) → at < length xs → read (field at 1) xs ≡ get_or xs at 0
@@ -68,7 +68,7 @@ gathered_more rest hashes more h k so_far is longer =
     }
 
 pub gathered_all : (block rest : List ℕ) (hashes : List Hash) (k : ℕ) → drop 1 block ≡ rest → length rest ≡ 255 → k ≡ get_or rest 53 0 → Gathered rest hashes k
-    → Says-references block (map bytes_of hashes)
+    → SaysReferences block (map bytes_of hashes)
 gathered_all block rest hashes k is whole end all =
     let long : length (map bytes_of hashes) ≡ k = length-map hashes bytes_of ∙ all.count in
     record {

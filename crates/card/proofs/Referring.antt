@@ -4,7 +4,7 @@ use Rattle.std.proofs.lemmas.List.{length-map}
 use Rattle.naming.specs.declared.hash.Hash.{Hash}
 use Rattle.records.specs.View.{bytes_of}
 use Rattle.card.specs.Fields.{field, get, reference_field}
-use Rattle.card.specs.Written.{Kept, Wrote, Wrote-hashes}
+use Rattle.card.specs.Written.{Kept, Wrote, WroteHashes}
 use Rattle.card.proofs.Writes.{as_wide, below_both, field_below, past_both}
 
 -- The first n hashes are written, and nothing else.
@@ -34,7 +34,7 @@ referring_more hashes before b c h n long is so_far wrote = record {
     sum w wide = omega arith
 
 pub referring_all : (hashes : List Hash) (before after : List ℕ) (n : ℕ) → n ≡ length hashes → Referring hashes before n after
-    → Wrote-hashes (map bytes_of hashes) before after
+    → WroteHashes (map bytes_of hashes) before after
 referring_all hashes before after n end all =
     let count : n ≡ length (map bytes_of hashes) = end ∙ sym (length-map hashes bytes_of) in
     record { here = λ k less. all.here k (omega arith); kept = subst (λ m. Kept 55 (55 + 20 * m) before after) count all.kept }

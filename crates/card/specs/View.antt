@@ -25,7 +25,7 @@ pub record SaysName (block name : List ℕ) : Type 0 where
   pub long : read name_length_field block ≡ length name
   pub text : take (length name) (get name_field block) ≡ name
 
-pub record Says-references (block : List ℕ) (refs : List (List ℕ)) : Type 0 where
+pub record SaysReferences (block : List ℕ) (refs : List (List ℕ)) : Type 0 where
   pub count : read reference_count_field block ≡ length refs
   pub each : (k : ℕ) → k < length refs → get (reference_field k) block ≡ slice_index_or refs k []
 

@@ -17,6 +17,6 @@ pub record WroteNumber (f : Field) (n : ℕ) (before after : List ℕ) : Type 0 
   pub kept : Kept f.at (f.at + f.width) before after
 
 -- The fields of references have these hashes, and all else is as before.
-pub record Wrote-hashes (hashes : List (List ℕ)) (before after : List ℕ) : Type 0 where
+pub record WroteHashes (hashes : List (List ℕ)) (before after : List ℕ) : Type 0 where
   pub here : (k : ℕ) → k < length hashes → get (reference_field k) after ≡ slice_index_or hashes k []
   pub kept : Kept 55 (55 + 20 * length hashes) before after

@@ -2,7 +2,7 @@
 ghost use Rattle.std.specs.Prelude.{◌≡◌, ℕ, ◌<◌, List, map, length, drop, None, MatchOption};
 ghost use Rattle.card.specs.Entries.{Says, SaysPath};
 ghost use Rattle.card.specs.Fields.{generation_field, profile_field, read, reference_count_field};
-ghost use Rattle.card.specs.View.{Decodes, ReadablePath, SaysName, Says-references};
+ghost use Rattle.card.specs.View.{Decodes, ReadablePath, SaysName, SaysReferences};
 ghost use Rattle.model.specs.Fits.{Fits};
 ghost use Rattle.model.specs.Plain.{Path as Plain-path, Entry as Plain-entry, Catalogue as Plain-catalogue};
 ghost use Rattle.naming.specs.Name.{Lawful};
@@ -29,7 +29,7 @@ fn decode_name(rest: &[u8]) -> Option<Name>
 // The references, or none where they are more than eight.
 fn decode_references(rest: &[u8]) -> Option<References>
     requires { length rest.now ≡ 255 }
-    ensures { (block : List ℕ) → drop 1 block ≡ rest.now → MatchOption result (8 < read reference_count_field block) (λ refs. Says-references block (map bytes_of (listed refs))) }
+    ensures { (block : List ℕ) → drop 1 block ≡ rest.now → MatchOption result (8 < read reference_count_field block) (λ refs. SaysReferences block (map bytes_of (listed refs))) }
 {
     let mut refs = References::new();
     for k in 0..rest[places::REFERENCE_COUNT - 1] as usize {

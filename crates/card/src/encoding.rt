@@ -2,7 +2,7 @@
 ghost use Rattle.std.specs.Prelude.{◌≡◌, ◌≤◌, map, length};
 ghost use Rattle.card.specs.Entries.{Clean, Marked, Says};
 ghost use Rattle.card.specs.Fields.{Zero, generation_field, kind_field, profile_field, read};
-ghost use Rattle.card.specs.Written.{Wrote-hashes};
+ghost use Rattle.card.specs.Written.{WroteHashes};
 ghost use Rattle.model.specs.Plain.{register};
 ghost use Rattle.records.specs.View.{bytes_of, entry_of, path_of};
 
@@ -15,7 +15,7 @@ use records::{Entry, PathRecord};
 // Writes the hashes that a path refers to.
 fn put_references(block: &mut [u8], hashes: &[Hash])
     requires { (length block.old ≡ 256) × (length hashes.now ≤ 8) }
-    ensures { Wrote-hashes (map bytes_of hashes.now) block.old block.new }
+    ensures { WroteHashes (map bytes_of hashes.now) block.old block.new }
 {
     for (k, hash) in hashes.iter().enumerate() {
         put(block, places::REFERENCES + 20 * k, &hash.bytes);

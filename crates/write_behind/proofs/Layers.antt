@@ -1,14 +1,14 @@
 -- A disk with blocks held back in front of it is a disk.
-use Rattle.std.proofs.Common.{◌≡◌, ℕ, ◌<◌, Bool, true, false, cond, eqb, ◌⊎◌, List, [], ◌∷◌, ◌++◌, length, set, Ok, Err, Result, sym, refl, ap, ◌∙◌, inl, inr, eq-eqb, ne_eqb, eqb-true}
+use Rattle.std.proofs.Common.{◌≡◌, ℕ, ◌<◌, Bool, true, false, cond, eqb, ◌⊎◌, List, [], ◌∷◌, length, Err, Result, sym, refl, ap, ◌∙◌, inl, inr, eq-eqb, ne_eqb, eqb-true}
 use Rattle.std.proofs.lemmas.Bool.{both_ways}
 use Rattle.disk.specs.declared.Fault.{Fault}
 use Rattle.disk.specs.declared.Fault.TheVariants.{Dark, NoBlock}
-use Rattle.disk.specs.Meaning.{Block, Meaning, Sound, Same, Written, Torn, GainsOnly, Passed, Lost, Barrier}
+use Rattle.disk.specs.Meaning.{Block, Meaning, Sound, Same, Written, Torn, Passed, Lost, Barrier}
 use Rattle.write_behind.specs.declared.held.Pending.{Pending}
-use Rattle.write_behind.specs.Behind.{overlaid, Held, behind, Last, Holds, Replaced, Added}
+use Rattle.write_behind.specs.Behind.{overlaid, Held, behind, Replaced, Added}
 use Rattle.write_behind.specs.Order.{Sent, StoppedAt, Drained, Cut, BehindBarrier}
 use Rattle.write_behind.proofs.Helds.{overlaid_push, held_push, overlaid_here, overlaid_others, held_set}
-use Rattle.write_behind.proofs.Drains.{Flushed, Stopped, sent_flushed, stopped_one, drained_flushed, cut_stopped}
+use Rattle.write_behind.proofs.Drains.{sent_flushed, stopped_one, drained_flushed, cut_stopped}
 
 -- What is held is whole.
 held_whole : (k : ℕ) (y : Block) (ps : List Pending) → Held k y ps → length y ≡ 256

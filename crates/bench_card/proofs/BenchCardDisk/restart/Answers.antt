@@ -1,4 +1,4 @@
-use Rattle.std.proofs.Common.{refl, ap, ◌∙◌}
+use Rattle.std.proofs.Common.{refl}
 use Rattle.bench_card.proofs.Copies.{reverted_laid}
 use Rattle.bench_card.proofs.Cards.{restart_restarted}
 use Rattle.bench_card.proofs.BenchCardDisk.restart.Goals as goal

@@ -4,7 +4,7 @@ use Rattle.naming.specs.Texts.{name_text}
 use Rattle.naming.proofs.Same.{text_length}
 use Rattle.records.specs.View.{bytes_of, listed, path_of}
 use Rattle.card.specs.Fields.{field}
-use Rattle.card.specs.Written.{Wrote, Wrote-hashes}
+use Rattle.card.specs.Written.{Wrote, WroteHashes}
 use Rattle.card.proofs.Paths.{path_clean, path_says}
 use Rattle.card.proofs.Writes.{zero_blank}
 use Rattle.card.proofs.encoding.path_fields.Goals as goal
@@ -18,7 +18,7 @@ returns c =
     let name = subst (λ t. Wrote (field 22 (length t)) t c.put-3.new.block c.put-4.new.block) c.as_bytes-name.ensures c.put-4.ensures in
     let reference_count = subst (λ n. Wrote (field 54 1) (n ∷ []) c.put_u32-2.new.block c.put-5.new.block) count c.put-5.ensures in
     let references =
-    subst (λ hs. Wrote-hashes (map bytes_of hs) c.put-5.new.block c.put_references.new.block) c.as_slice-hashes.ensures c.put_references.ensures
+    subst (λ hs. WroteHashes (map bytes_of hs) c.put-5.new.block c.put_references.new.block) c.as_slice-hashes.ensures c.put_references.ensures
     in
     record {
       says =

@@ -1,4 +1,4 @@
-use Rattle.std.proofs.Common.{sym, refl, inl, inr}
+use Rattle.std.proofs.Common.{refl, inl, inr}
 use Rattle.write_behind.proofs.Layers.{written_replaced, written_added, written_shifted, torn_shifted}
 use Rattle.write_behind.proofs.Orders.{orderly_replaced, orderly_added, orderly_rest, orderly_same}
 use Rattle.write_behind.proofs.WriteBehindDisk.write.Goals as goal

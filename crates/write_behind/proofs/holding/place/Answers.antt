@@ -1,5 +1,3 @@
-use Rattle.std.proofs.Common.{◌≡◌}
-use Rattle.write_behind.specs.Behind.{Place}
 use Rattle.write_behind.proofs.Helds.{place_hit_next, place_miss_next, place_all}
 use Rattle.write_behind.proofs.holding.place.Goals as goal
 use Rattle.write_behind.proofs.holding.place.Goals.{then-p-b, else-p-b}
