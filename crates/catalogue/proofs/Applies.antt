@@ -74,9 +74,9 @@ module _ (cat : Catalogue) (p : ℕ) (f x : Profile) (at : x ≡ get_or (vec_ite
 
   -- The invariant of the catalogue with the profile in place.
   pub still_whole : (e : plain.Entry) → Fits cat.blocks (catalogue_of cat) e → SetTo e
-      → (length (set (vec_items cat.profiles) p f) ≡ 3) × (∥ Sound cat.blocks (catalogue_from (vec_items cat.paths) (set (vec_items cat.profiles) p f)) ∥₁ × Unit {0})
+      → (length (set (vec_items cat.profiles) p f) ≡ 3) × ∥ Sound cat.blocks (catalogue_from (vec_items cat.paths) (set (vec_items cat.profiles) p f)) ∥₁
   still_whole e fits is =
-      (length-set (vec_items cat.profiles) p f ∙ cat.three, (sound_kept cat.blocks (catalogue_of cat) e _ cat.sound fits is, tt))
+      (length-set (vec_items cat.profiles) p f ∙ cat.three, sound_kept cat.blocks (catalogue_of cat) e _ cat.sound fits is)
 
   there : p < 3 → p < length (vec_items cat.profiles)
   there less = omega (arith, cat.three)
@@ -112,9 +112,9 @@ module _ (cat : Catalogue) (paths : Vec PathRecord Global) where
   PathsTo e = catalogue_from (vec_items paths) (vec_items cat.profiles) ≡ after (catalogue_of cat) e
 
   pub whole_paths : (e : plain.Entry) → Fits cat.blocks (catalogue_of cat) e → PathsTo e → vec_capacity paths ≡ vec_capacity cat.paths
-      → (40 ≤ vec_capacity paths) × ((length (vec_items cat.profiles) ≡ 3) × (∥ Sound cat.blocks (catalogue_from (vec_items paths) (vec_items cat.profiles)) ∥₁ × Unit {0}))
+      → (40 ≤ vec_capacity paths) × (length (vec_items cat.profiles) ≡ 3) × ∥ Sound cat.blocks (catalogue_from (vec_items paths) (vec_items cat.profiles)) ∥₁
   whole_paths e fits is cap =
-      (omega (arith, cat.room), (cat.three, (sound_kept cat.blocks (catalogue_of cat) e _ cat.sound fits is, tt)))
+      (omega (arith, cat.room), cat.three, sound_kept cat.blocks (catalogue_of cat) e _ cat.sound fits is)
 
 pub path_room : (cat : Catalogue) (p : PathRecord) → Fits cat.blocks (catalogue_of cat) (plain.register (path_of p)) → vec_len cat.paths < vec_capacity cat.paths
 path_room cat p fits =

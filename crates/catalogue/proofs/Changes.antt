@@ -1,11 +1,10 @@
 -- An element taken out of a list by its place, where a test tells it apart from all others.
-use Rattle.std.proofs.Common.{◌≡◌, ℕ, zero, suc, ◌+◌, ◌<◌, ◌≤◌, Bool, true, false, cond, not, List, [], ◌∷◌, ◌++◌, map, length, get_or, take, drop, Some, None, filter, sym, refl, ap, ◌∙◌, subst, inl, inr, arith}
+use Rattle.std.proofs.Common.{◌≡◌, ℕ, zero, suc, ◌<◌, Bool, true, false, cond, not, List, [], ◌∷◌, map, length, get_or, take, drop, Some, None, filter, sym, refl, ap, ◌∙◌, subst, inl, inr, arith}
 use Rattle.std.specs.List.{remove}
-use Rattle.std.proofs.lemmas.List.{map-append, take-map, drop-map, get_or_default, length-map}
+use Rattle.std.proofs.lemmas.List.{map-append, take-map, drop-map, length-map}
 use Rattle.std.proofs.lemmas.Bool.{cases_Bool, not_from_false, not_from_true}
-use Rattle.model.specs.Fits.{any}
 use Rattle.model.proofs.Chains.{none_at}
-use Rattle.catalogue.specs.Change.{Single, Taken}
+use Rattle.catalogue.specs.Change.{Taken}
 use Rattle.records.specs.Find.{Finds}
 
 pub map_removed : {X Y : Type 0} (f : X → Y) (xs : List X) (i : ℕ) → map f (remove xs i) ≡ remove (map f xs) i

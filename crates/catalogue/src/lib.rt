@@ -13,3 +13,6 @@ mod removing;
 pub use applying::Unfit;
 pub use catalogues::Catalogue;
 pub use profile::Profile;
+pub use records::{
+    ByHash, ByNumber, Entry, Generation, Meeting, PathRecord, References, Run, Test, find, is_any,
+};

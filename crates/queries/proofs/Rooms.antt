@@ -1,9 +1,9 @@
 -- A walk from the end of the card down, past every run that is in the way.
-use Rattle.std.proofs.Common.{◌≡◌, ℕ, ◌+◌, ◌-◌, ◌<◌, ◌≤◌, max, Bool, true, false, ◌&&◌, ltb, List, ◌++◌, map, length, get_or, Some, None, Option, sym, refl, ap, ◌∙◌, subst, arith}
+use Rattle.std.proofs.Common.{◌≡◌, ℕ, ◌+◌, ◌-◌, ◌<◌, ◌≤◌, max, true, false, ◌&&◌, ltb, List, map, length, get_or, Some, None, Option, sym, ap, ◌∙◌, subst, arith}
 use native.Mathlib.Decide.{dec_le}
 use Rattle.std.proofs.lemmas.List.{get_or-append-add, get_or_append_left, get_or-map, length-append, length-map}
 use Rattle.std.proofs.lemmas.Bool.{and_parts, both_ways, ltb-true, or_from}
-use Rattle.model.specs.Plain.{Path, Span, run}
+use Rattle.model.specs.Plain.{Span, run}
 use Rattle.model.specs.Fits.{Apart, any}
 use Rattle.model.specs.Free.{Free, LastFree, nowhere}
 use Rattle.model.proofs.Chains.{any_append, none_at}

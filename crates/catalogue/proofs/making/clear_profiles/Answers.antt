@@ -1,4 +1,4 @@
-use Rattle.std.proofs.Common.{◌<◌, ◌≤◌, length, arith}
+use Rattle.std.proofs.Common.{◌<◌, length, arith}
 use Rattle.catalogue.proofs.Clears.{cleared_all, cleared_more}
 use Rattle.catalogue.proofs.making.clear_profiles.Goals as goal
 

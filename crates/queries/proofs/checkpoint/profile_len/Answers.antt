@@ -1,4 +1,4 @@
-use Rattle.std.proofs.Common.{length, vec_items, sym, ap, ◌∙◌, arith}
+use Rattle.std.proofs.Common.{length, vec_items, ap, ◌∙◌, arith}
 use Rattle.queries.proofs.Listings.{none_long, some_long}
 use Rattle.queries.proofs.checkpoint.profile_len.Goals as goal
 

@@ -1,4 +1,3 @@
-use Rattle.std.proofs.Common.{◌≤◌}
 use Rattle.catalogue.specs.Whole.{catalogue_of}
 use Rattle.queries.specs.Room.{taken_by}
 use Rattle.queries.proofs.Rooms.{Limit}

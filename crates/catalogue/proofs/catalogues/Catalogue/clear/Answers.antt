@@ -9,10 +9,11 @@ invariant_of-self c =
     let v = c.args.self.now.profiles in
     let fs = c.clear_profiles.new.profiles in
     let ps = c.clear.new.self in
-    let empty = emptied v fs (omega arith) c.clear_profiles.ensures in (
-      omega (arith, c.clear.ensures.capacity, c.args.self.now.room),
-      (three_made (vec_items (with_items v fs)) empty, (sound_new c.args.blocks _ (view_nothing (vec_items ps) (vec_items (with_items v fs)) c.clear.ensures.items empty), tt)),
-    )
+    let empty = emptied v fs (omega arith) c.clear_profiles.ensures in record {
+      room = omega (arith, c.clear.ensures.capacity, c.args.self.now.room);
+      three = three_made (vec_items (with_items v fs)) empty;
+      sound = sound_new c.args.blocks _ (view_nothing (vec_items ps) (vec_items (with_items v fs)) c.clear.ensures.items empty);
+    }
 
 pub returns : goal.returns
 returns c =

@@ -7,12 +7,12 @@ pub invariant_of-self : goal.invariant_of-self
 invariant_of-self c =
     let cat = c.args.self.now in
     let f = c.forget.new.self in
-    let x = c.index-mut.result.now in
-    (cat.room, still_whole cat c.args.profile f x c.index-mut.ensures.value (plain.forget c.args.profile c.args.number) c.requires (forgotten cat c.args.profile f x c.index-mut.ensures.value c.args.number c.requires c.forget.ensures.gone c.forget.ensures.same))
+    let x = c.index_mut.result.now in
+    let whole = still_whole cat c.args.profile f x c.index_mut.ensures.value (plain.forget c.args.profile c.args.number) c.requires (forgotten cat c.args.profile f x c.index_mut.ensures.value c.args.number c.requires c.forget.ensures.gone c.forget.ensures.same) in record { room = cat.room; three = whole.0; sound = whole.1 }
 
 pub returns : goal.returns
 returns c =
     let cat = c.args.self.now in
     let f = c.forget.new.self in
-    let x = c.index-mut.result.now in
-    (forgotten cat c.args.profile f x c.index-mut.ensures.value c.args.number c.requires c.forget.ensures.gone c.forget.ensures.same, refl)
+    let x = c.index_mut.result.now in
+    (forgotten cat c.args.profile f x c.index_mut.ensures.value c.args.number c.requires c.forget.ensures.gone c.forget.ensures.same, refl)

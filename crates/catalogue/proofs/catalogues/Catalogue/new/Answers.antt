@@ -5,10 +5,8 @@ use Rattle.catalogue.proofs.catalogues.Catalogue.new.Goals as goal
 pub invariant_of-result : goal.invariant_of-result
 invariant_of-result c =
     let paths = c.in_ok-paths in
-    let fs = c.in_ok-profiles in (
-      paths.ensures.capacity,
-      (
-        three_made (vec_items fs.profiles) fs.ensures,
-        (sound_new c.args.blocks _ (view_nothing (vec_items paths.paths) (vec_items fs.profiles) paths.ensures.items fs.ensures), tt),
-      ),
-    )
+    let fs = c.in_ok-profiles in record {
+      room = paths.ensures.capacity;
+      three = three_made (vec_items fs.profiles) fs.ensures;
+      sound = sound_new c.args.blocks _ (view_nothing (vec_items paths.paths) (vec_items fs.profiles) paths.ensures.items fs.ensures);
+    }

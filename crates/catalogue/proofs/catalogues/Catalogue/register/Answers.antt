@@ -12,8 +12,9 @@ invariant_of-self c =
     let cat = c.args.self.now in
     let p = c.args.path.now in
     let more = c.push_reserved.new.self in
-    whole_paths cat more (register (path_of p)) c.requires
-    (view_pushed (vec_items cat.paths) (vec_items cat.profiles) p (vec_items more) c.push_reserved.ensures.items) c.push_reserved.ensures.capacity
+    let whole = whole_paths cat more (register (path_of p)) c.requires
+    (view_pushed (vec_items cat.paths) (vec_items cat.profiles) p (vec_items more) c.push_reserved.ensures.items) c.push_reserved.ensures.capacity in
+    record { room = whole.0; three = whole.1; sound = whole.2 }
 
 pub returns : goal.returns
 returns c =

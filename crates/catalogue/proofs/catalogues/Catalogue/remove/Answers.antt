@@ -1,4 +1,4 @@
-use Rattle.std.proofs.Common.{vec_items, sym, refl, ◌∙◌, arith}
+use Rattle.std.proofs.Common.{vec_items, refl, arith}
 use Rattle.std.specs.Str.{bytes_eq}
 use Rattle.model.specs.Plain as plain
 use Rattle.records.specs.View.{path_of}
@@ -16,8 +16,9 @@ invariant_of-self c =
     let cat = c.args.self.now in
     let left = c.remove.new.self in
     let h = c.args.hash.now.bytes in
-    whole_paths cat left (plain.remove h) c.requires
-    (removed_at cat h c.as_slice.result.now (vec_items left) c.in-Some.row c.as_slice.ensures.value c.in-Some.ensures c.remove.ensures.items) c.remove.ensures.capacity
+    let whole = whole_paths cat left (plain.remove h) c.requires
+    (removed_at cat h c.as_slice.result.now (vec_items left) c.in-Some.row c.as_slice.ensures.value c.in-Some.ensures c.remove.ensures.items) c.remove.ensures.capacity in
+    record { room = whole.0; three = whole.1; sound = whole.2 }
 
 pub returns-in-Some : goal.returns-in-Some
 returns-in-Some c =

@@ -7,12 +7,12 @@ pub invariant_of-self : goal.invariant_of-self
 invariant_of-self c =
     let cat = c.args.self.now in
     let f = c.choose.new.self in
-    let x = c.index-mut.result.now in
-    (cat.room, still_whole cat c.args.profile f x c.index-mut.ensures.value (plain.switch c.args.profile c.args.number) c.requires (switched cat c.args.profile f x c.index-mut.ensures.value c.args.number c.requires c.choose.ensures))
+    let x = c.index_mut.result.now in
+    let whole = still_whole cat c.args.profile f x c.index_mut.ensures.value (plain.switch c.args.profile c.args.number) c.requires (switched cat c.args.profile f x c.index_mut.ensures.value c.args.number c.requires c.choose.ensures) in record { room = cat.room; three = whole.0; sound = whole.1 }
 
 pub returns : goal.returns
 returns c =
     let cat = c.args.self.now in
     let f = c.choose.new.self in
-    let x = c.index-mut.result.now in
-    (switched cat c.args.profile f x c.index-mut.ensures.value c.args.number c.requires c.choose.ensures, refl)
+    let x = c.index_mut.result.now in
+    (switched cat c.args.profile f x c.index_mut.ensures.value c.args.number c.requires c.choose.ensures, refl)
