@@ -1,14 +1,14 @@
 -- A collection stays sound, whatever comes while it runs.
-use Rattle.std.proofs.Common.{◌≡◌, ℕ, zero, suc, ◌+◌, ◌<◌, ◌≤◌, Bool, true, false, cond, not, ◌||◌, ◌≢◌, ◌⊎◌, List, [], ◌∷◌, ◌++◌, map, length, get_or, take, filter, sym, refl, ap, ◌∙◌, subst, inl, inr, arith}
+use Rattle.std.proofs.Common.{◌≡◌, ℕ, ◌+◌, Bool, true, false, cond, not, ◌||◌, ◌⊎◌, List, [], ◌∷◌, ◌++◌, length, get_or, filter, sym, ◌∙◌, subst, inl, inr, arith}
 use Rattle.std.specs.Str.{bytes_eq}
-use Rattle.std.proofs.lemmas.List.{get_or_append_left, get_or_push, length_push, length-take-le}
+use Rattle.std.proofs.lemmas.List.{get_or_append_left, get_or_push, length_push}
 use Rattle.std.proofs.lemmas.Bool.{cases_Bool, cases_lt, or_cases, or_left, or_right, or_from, or_parts, both_ways, cond-true, cond-false, not-true, not_from_false}
 use Rattle.model.specs.Lists.{Chain}
 use Rattle.model.specs.Plain.{Bytes, Path, no_path}
-use Rattle.model.specs.Fits.{any, has_hash, refers, Registrable}
-use Rattle.model.proofs.Chains.{any_append, any_left, any_right, any_push, any_from, any_place, none_at, any_kept, any_of_kept, kept_each, kept_each_passes}
+use Rattle.model.specs.Fits.{has_hash, refers, Registrable}
+use Rattle.model.proofs.Chains.{any_append, any_left, any_right, any_place, any_kept, any_of_kept, kept_each, kept_each_passes}
 use Rattle.model.proofs.Sounds.{same_is, is_same}
-use Rattle.model.proofs.Rows.{reference_row, hash_of_row, row_of_hash, one_row}
+use Rattle.model.proofs.Rows.{reference_row, hash_of_row, one_row}
 use Rattle.ledger.specs.State.{Collection, has, the_path}
 use Rattle.ledger.specs.Rules.{mark, NextWaiting}
 use Rattle.ledger.specs.Sound.{SoundCollection}

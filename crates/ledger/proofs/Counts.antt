@@ -1,25 +1,25 @@
 -- How many steps a collection takes.
-use Rattle.std.proofs.Common.{◌≡◌, ℕ, zero, suc, ◌+◌, ◌-◌, ◌<◌, ◌≤◌, Bool, true, false, cond, not, ◌&&◌, ◌||◌, ltb, ◌≢◌, ◌⊎◌, List, [], ◌∷◌, ◌++◌, map, length, get_or, take, Some, None, filter, Option, sym, refl, ap, ◌∙◌, subst, inl, inr, add-one, arith}
+use Rattle.std.proofs.Common.{◌≡◌, ℕ, zero, suc, ◌+◌, ◌<◌, ◌≤◌, Bool, true, false, cond, not, ◌&&◌, ◌||◌, ltb, ◌≢◌, ◌⊎◌, List, [], ◌∷◌, ◌++◌, length, get_or, take, Some, filter, sym, refl, ap, ◌∙◌, subst, inl, inr, add-one, arith}
 use Rattle.std.specs.List.{AllByRecursion as All}
 use Rattle.std.specs.Str.{bytes_eq}
 use Rattle.std.proofs.lemmas.List.{take_all, length-append, length_push}
 use Rattle.std.proofs.lemmas.List.Elements.{filter-append}
 use Rattle.std.proofs.lemmas.List.Filters.{length-filter_more}
-use Rattle.std.proofs.lemmas.Bool.{cases_Bool, cases_lt, cases_eq, or_cases, or_left, or_right, or_from, or_parts, both_ways, cond-true, cond-false, not-true, not_from_false, not_from_true, lt-ltb, le-ltb, and_from, and_left, and_right}
+use Rattle.std.proofs.lemmas.Bool.{cases_Bool, cases_lt, cases_eq, both_ways, cond-true, cond-false, not_from_false, not_from_true, lt-ltb, le-ltb, and_left}
 use Rattle.model.specs.Lists.{Chain}
-use Rattle.model.specs.Plain.{Bytes, Path, Entry, register, remove, no_path}
-use Rattle.model.specs.Fits.{any, has_hash, Registrable}
+use Rattle.model.specs.Plain.{Bytes, Path, no_path}
+use Rattle.model.specs.Fits.{has_hash, Registrable}
 use Rattle.model.proofs.Sounds.{same_is, is_same}
 use Rattle.model.proofs.Rows.{row_of_hash, hash_of_row, one_row}
 use Rattle.ledger.specs.declared.refusals.Refusal.{Refusal}
-use Rattle.ledger.specs.State.{Ledger, Build, Collection, has, paths}
-use Rattle.ledger.specs.Calls.{Call, Lease, Release, Begin, Put, Seal, Scrap, Commit, Rollback, Switch, Forget, Collect, Step, Open, Find, ClosureOf, Read, Answer, Done, Number, Marked, Removed, Ended, Found, Members, Block, Refused}
-use Rattle.ledger.specs.Rows.{Row, shut, First, Granted, Removal, Due, due_removal, collect_running}
-use Rattle.ledger.specs.Rules.{mark, NextWaiting, AllMarked, also_waits, roots, Answered, refused, leases, releases, begins, puts, seals, scraps, commits, rolls_back, switches, forgets, collects, marks, removes, ends, opens, finds, finds_none, closes, reads, cuts_put, cuts_seal, cuts_entry, Run, start, then}
-use Rattle.ledger.specs.Sound.{SoundCollection, SoundLedger}
-use Rattle.ledger.specs.Promise.{step_count, done_count, seal_count, steps_of, seals_of}
-use Rattle.ledger.proofs.Sets.{has_cases, has_head, has_tail, some_same}
-use Rattle.ledger.proofs.Dues.{granted_live, not_false_is_true}
+use Rattle.ledger.specs.State.{Ledger, Collection, has, paths}
+use Rattle.ledger.specs.Calls.{Call, Lease, Release, Begin, Put, Seal, Scrap, Commit, Rollback, Switch, Forget, Collect, Step, Open, Find, ClosureOf, Read, Answer, Done, Ended, Refused}
+use Rattle.ledger.specs.Rows.{due_removal, collect_running}
+use Rattle.ledger.specs.Rules.{mark, also_waits, roots, Answered, refused, leases, releases, begins, puts, seals, scraps, commits, rolls_back, switches, forgets, collects, marks, removes, ends, opens, finds, finds_none, closes, reads, cuts_put, cuts_seal, cuts_entry, Run, start, then}
+use Rattle.ledger.specs.Sound.{SoundLedger}
+use Rattle.ledger.specs.Promise.{step_count, seal_count, steps_of, seals_of}
+use Rattle.ledger.proofs.Sets.{has_head, some_same}
+use Rattle.ledger.proofs.Dues.{granted_live}
 use Rattle.ledger.proofs.Cases.{refused_or_granted}
 use Rattle.ledger.proofs.Keeps.{keeps, run_sound}
 

@@ -1,16 +1,16 @@
 -- The entry that a granted call writes fits the catalogue.
-use Rattle.std.proofs.Common.{◌≡◌, ℕ, zero, suc, ◌+◌, ◌-◌, ◌^◌, ◌<◌, ◌≤◌, max, Bool, true, false, cond, not, ◌||◌, ◌≢◌, ◌⊎◌, List, [], ◌∷◌, ◌++◌, map, length, get_or, take, Some, None, Option, sym, refl, ap, ◌∙◌, subst, inl, inr, arith}
+use Rattle.std.proofs.Common.{◌≡◌, ℕ, zero, suc, ◌+◌, ◌-◌, ◌^◌, ◌<◌, ◌≤◌, Bool, true, false, ◌||◌, List, [], ◌∷◌, length, get_or, Some, refl, subst, inl, inr, arith}
 use Rattle.std.specs.Str.{bytes_eq}
-use Rattle.std.proofs.lemmas.Bool.{cases_Bool, cases_lt, or_cases, or_left, or_right, or_from, or_parts, both_ways}
-use Rattle.model.specs.Plain.{Bytes, Path, Generation, Profile, Catalogue, Entry, register, commit, switch, forget, remove, no_path, no_generation, unused}
-use Rattle.model.specs.Fits.{any, has_hash, has_number, names_path, refers, profile, Registrable, Committable, Removable, Fits, Sound, SoundProfile}
+use Rattle.std.proofs.lemmas.Bool.{cases_Bool, cases_lt, or_cases, or_left, or_right, or_from, both_ways}
+use Rattle.model.specs.Plain.{Bytes, Generation, Catalogue, Entry, commit, no_generation, unused}
+use Rattle.model.specs.Fits.{has_hash, has_number, names_path, profile, Registrable, Removable, Fits, Sound}
 use Rattle.model.proofs.Chains.{any_from, any_place}
 use Rattle.model.proofs.Sounds.{same_is, is_same}
 use Rattle.model.specs.Standing.{next_number}
-use Rattle.ledger.specs.State.{Ledger, Build, Collection, has, catalogue, paths, leased, building, half_built, named, on_lease, root}
-use Rattle.ledger.specs.Calls.{Call, Lease, Seal, Commit, Rollback, Switch, Forget, Step, Open}
-use Rattle.ledger.specs.Rows.{generations, greatest, BeforeCurrent, Candidate, References, Loose, Removal, sealed_path, Due, due_seal, due_commit, due_rollback, due_switch, due_forget, due_removal, Row, First, Granted, shut, seal_holder, seal_many, commit_profile, rollback_profile, switch_profile, forget_profile, commit_unknown, switch_none, forget_none, forget_current, commit_six, commit_greatest, numbers_spent}
-use Rattle.ledger.specs.Sound.{SoundCollection, SoundBuild, SoundLedger}
+use Rattle.ledger.specs.State.{Ledger, Build, Collection, has, catalogue, paths, leased, building, named, on_lease, root}
+use Rattle.ledger.specs.Calls.{Call, Seal, Commit, Open}
+use Rattle.ledger.specs.Rows.{generations, greatest, References, Removal, sealed_path, Due, due_seal, due_commit, due_rollback, due_switch, due_forget, due_removal, Granted, shut, seal_holder, seal_many, commit_profile, rollback_profile, switch_profile, forget_profile, commit_unknown, switch_none, forget_none, forget_current, commit_six, commit_greatest, numbers_spent}
+use Rattle.ledger.specs.Sound.{SoundLedger}
 use Rattle.ledger.proofs.Sets.{somes_place}
 
 -- What is not refused.

@@ -1,25 +1,25 @@
 -- Every answered call leaves a sound ledger.
-use Rattle.std.proofs.Common.{◌≡◌, ℕ, zero, suc, ◌+◌, ◌-◌, ◌^◌, ◌<◌, ◌≤◌, Bool, true, false, cond, not, ◌||◌, ◌≢◌, ◌⊎◌, List, [], ◌∷◌, ◌++◌, map, length, get_or, set, replicate, Some, None, filter, Option, sym, refl, ap, ◌∙◌, subst, inl, inr, arith}
+use Rattle.std.proofs.Common.{◌≡◌, ℕ, ◌+◌, ◌<◌, ◌≤◌, Bool, true, false, not, ◌||◌, ◌≢◌, ◌⊎◌, List, [], ◌∷◌, ◌++◌, map, length, get_or, set, replicate, Some, None, filter, Option, sym, refl, ap, ◌∙◌, subst, inl, inr, arith}
 use Rattle.std.specs.Str.{bytes_eq}
-use Rattle.std.proofs.lemmas.List.{length-set, length_push, length-append, length-map, length-replicate, get_or_append_left, get_or-append_right, get_or-append-add, get_or_push, get_or-map}
+use Rattle.std.proofs.lemmas.List.{length-set, length_push, length-append, length-map, get_or_append_left, get_or-append-add, get_or_push, get_or-map}
 use Rattle.std.proofs.lemmas.Bool.{cases_Bool, cases_lt, cases_eq, or_cases, or_left, or_right, or_from, or_parts, both_ways}
-use Rattle.model.specs.Plain.{Bytes, Path, Generation, Profile, Catalogue, Entry, register, commit, switch, forget, remove, no_path, unused, Span, blocks, run, nothing}
-use Rattle.model.specs.Fits.{any, has_hash, has_number, names_path, profile, with_profile, Whole, Within, Apart, InData, Registrable, Fits, after, Sound, Registered}
-use Rattle.model.specs.Free.{Free, LastFree, nowhere}
-use Rattle.model.proofs.Chains.{any_append, any_left, any_from, any_place, any_of_kept, any_kept, kept_each, kept_by_le}
+use Rattle.model.specs.Plain.{Bytes, Path, Profile, Catalogue, Entry, register, commit, switch, forget, remove, no_path, Span, blocks, run}
+use Rattle.model.specs.Fits.{has_hash, names_path, profile, with_profile, Whole, Apart, InData, after}
+use Rattle.model.specs.Free.{nowhere}
+use Rattle.model.proofs.Chains.{any_append, any_left, any_from, any_of_kept, any_kept, kept_each, kept_by_le}
 use Rattle.model.proofs.Sounds.{same_is, is_same, sound_nothing}
 use Rattle.model.proofs.Rows.{paths_few, needs_registered}
-use Rattle.model.specs.Standing.{Standing, Place, entered}
+use Rattle.model.specs.Standing.{Standing, entered}
 use Rattle.ledger.specs.State.{Ledger, Build, Content, Collection, has, catalogue, paths, leased, building, somes, half_built, builds_hash, build_run, taken, named, on_lease, root, fresh}
-use Rattle.ledger.specs.Calls.{Call, Answer, Lease, Release, Begin, Put, Seal, Scrap, Commit, Rollback, Switch, Forget, Collect, Step, Open}
-use Rattle.ledger.specs.Rows.{generations, greatest, BeforeCurrent, References, Removal, Due, due_seal, due_commit, due_rollback, due_switch, due_forget, due_removal, Granted, sealed_path, lease_holder, lease_unknown, begin_holder, begin_name, begin_size, begin_taken, begin_building, begin_full, put_holder, put_past, seal_holder, seal_early, commit_profile, commit_unknown, rollback_profile, switch_profile, forget_profile}
-use Rattle.ledger.specs.Rules.{with_leases, with_entry, with_collection, lease, release, build, seal, also_waits, waits, roots, NextWaiting, mark, Reserved, begun, longer, cut, spares, MayFind, as_now, as_spare, opened, content_with, Answered, refused, leases, releases, begins, puts, seals, scraps, commits, rolls_back, switches, forgets, collects, marks, removes, ends, opens, finds, finds_none, closes, reads, cuts_put, cuts_seal, cuts_entry, Kept, Run, start, then}
-use Rattle.ledger.specs.Sound.{SoundCollection, SoundBuild, BuildsApart, AsSealed, SoundStanding, SoundLedger}
-use Rattle.ledger.proofs.Sets.{any_set, has_head, has_cases, somes_none_le, somes_end, somes_begin, somes_change, somes_has, somes_place, still_there, there_or_new, none_there, none_unless, some_same}
+use Rattle.ledger.specs.Calls.{Call, Answer, Lease, Begin, Put, Seal, Commit, Rollback, Switch, Forget, Step}
+use Rattle.ledger.specs.Rows.{generations, greatest, References, Removal, Due, due_seal, due_commit, due_rollback, due_switch, due_forget, due_removal, Granted, sealed_path, lease_holder, lease_unknown, begin_holder, begin_name, begin_size, begin_taken, begin_building, begin_full, put_past, seal_holder, seal_early, commit_profile, commit_unknown, forget_profile}
+use Rattle.ledger.specs.Rules.{with_leases, with_entry, with_collection, lease, release, build, seal, also_waits, waits, roots, Reserved, begun, longer, MayFind, as_now, as_spare, content_with, Answered, refused, leases, releases, begins, puts, seals, scraps, commits, rolls_back, switches, forgets, collects, marks, removes, ends, opens, finds, finds_none, closes, reads, cuts_put, cuts_seal, cuts_entry, Kept, Run, start, then}
+use Rattle.ledger.specs.Sound.{SoundCollection, SoundBuild, BuildsApart, SoundStanding, SoundLedger}
+use Rattle.ledger.proofs.Sets.{any_set, has_cases, somes_none_le, somes_end, somes_begin, somes_change, somes_has, somes_place, still_there, there_or_new, none_there, none_unless, some_same}
 use Rattle.ledger.proofs.Names.{lawful_unless}
 use Rattle.ledger.proofs.Collections.{joined_by, collection_fewer, collection_joined, collection_registered, collection_removed, collection_marked}
-use Rattle.ledger.proofs.Dues.{not_below, not_false_is_true, granted_live, due_numbered, due_fits, leased_on_lease, named_at, named_from, root_registered}
-use Rattle.ledger.proofs.Standings.{Contents, contents_with, contents_registered, contents_after, RegistersNone, standing_with, standing_entered, spares_sound}
+use Rattle.ledger.proofs.Dues.{not_below, not_false_is_true, granted_live, due_numbered, due_fits, leased_on_lease, named_from, root_registered}
+use Rattle.ledger.proofs.Standings.{contents_with, contents_registered, contents_after, RegistersNone, standing_with, standing_entered, spares_sound}
 
 -- What of a root one more or one less changes.
 abbrev MoreRoots : (Bytes → Bool) → (Bytes → Bool) → Bytes → Type 0

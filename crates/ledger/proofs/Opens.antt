@@ -1,17 +1,15 @@
 -- Opens, and what find and read answer.
-use Rattle.std.proofs.Common.{◌≡◌, ℕ, ◌+◌, ◌-◌, ◌*◌, ◌<◌, ◌≤◌, min, Bool, true, false, ◌⊎◌, List, [], ◌∷◌, length, get_or, Some, None, Option, sym, refl, ap, ◌∙◌, subst, inl, inr, arith}
-use Rattle.std.proofs.lemmas.Bool.{both_ways}
-use Rattle.model.specs.Plain.{Bytes, Path, Catalogue, Entry, no_path}
+use Rattle.std.proofs.Common.{◌≡◌, ℕ, ◌-◌, ◌*◌, min, true, ◌⊎◌, List, [], length, Some, sym, refl, ap, ◌∙◌, inl, inr, arith}
+use Rattle.model.specs.Plain.{Bytes, Path, Entry}
 use Rattle.model.specs.Fits.{has_hash, Makes}
 use Rattle.model.specs.Listing.{listing}
 use Rattle.model.proofs.Listings.{listing_makes}
-use Rattle.ledger.specs.declared.refusals.Refusal.{Refusal}
 use Rattle.model.specs.Standing.{Standing}
 use Rattle.ledger.specs.State.{Ledger, paths, the_path, fresh}
-use Rattle.ledger.specs.Calls.{Call, Answer, Open, Find, Read, Seal, Done, Found, Block, Refused}
-use Rattle.ledger.specs.Rows.{Row, shut, numbers_spent, Due, First, Granted, read_unknown}
-use Rattle.ledger.specs.Rules.{MayFind, as_now, as_spare, opened, content_block, Answered, refused, leases, releases, begins, puts, seals, scraps, commits, rolls_back, switches, forgets, collects, marks, removes, ends, opens, finds, finds_none, closes, reads, cuts_put, cuts_seal, cuts_entry, Run}
-use Rattle.ledger.specs.Sound.{SoundLedger, SoundStanding}
+use Rattle.ledger.specs.Calls.{Call, Answer, Open, Find, Read, Done, Found, Block}
+use Rattle.ledger.specs.Rows.{Row, shut, numbers_spent, read_unknown}
+use Rattle.ledger.specs.Rules.{MayFind, as_now, as_spare, opened, content_block, Answered, refused, leases, releases, begins, puts, seals, scraps, commits, rolls_back, switches, forgets, collects, marks, removes, ends, opens, finds, finds_none, closes, reads, cuts_put, cuts_seal, cuts_entry}
+use Rattle.ledger.specs.Sound.{SoundLedger}
 use Rattle.ledger.specs.Promise.{SealedAnew, Reached}
 use Rattle.ledger.proofs.Sets.{the_path_row}
 use Rattle.ledger.proofs.Dues.{not_false_is_true}

@@ -1,21 +1,20 @@
 -- While a collection runs, a step has an answer.
-use Rattle.std.proofs.Common.{◌≡◌, ℕ, zero, suc, ◌+◌, ◌-◌, ◌^◌, ◌<◌, ◌≤◌, Bool, true, false, not, ◌&&◌, ◌||◌, ◌≢◌, ◌⊎◌, List, [], ◌∷◌, ◌++◌, map, length, get_or, Some, None, filter, Option, sym, refl, ap, ◌∙◌, subst, inl, inr, arith}
+use Rattle.std.proofs.Common.{◌≡◌, ℕ, zero, suc, ◌-◌, ◌^◌, ◌<◌, ◌≤◌, Bool, true, false, not, ◌&&◌, ◌||◌, ◌⊎◌, List, [], ◌∷◌, map, length, get_or, Some, filter, sym, refl, ap, ◌∙◌, subst, inl, inr, arith}
 use Rattle.std.specs.Str.{bytes_eq}
-use Rattle.std.proofs.lemmas.Bool.{cases_Bool, cases_lt, cases_eq, or_cases, or_left, or_right, or_from, or_parts, both_ways, not-true, not-false, not_from_false, not_from_true, and_parts, and_from, true≢false}
+use Rattle.std.proofs.lemmas.Bool.{cases_Bool, cases_lt, cases_eq, or_from, both_ways, not-true, not_from_false, and_parts, and_from}
 use Rattle.naming.specs.Hash.{number_of}
-use Rattle.model.specs.Plain.{Bytes, Path, Entry, remove, no_path}
+use Rattle.model.specs.Plain.{Bytes, Path, no_path}
 use Rattle.model.specs.Fits.{any, has_hash, refers}
-use Rattle.model.proofs.Chains.{any_from, any_place, any_kept, any_of_kept, none_at, kept_each_passes}
+use Rattle.model.proofs.Chains.{any_from, any_place, any_kept, any_of_kept, kept_each_passes}
 use Rattle.model.proofs.Sounds.{same_is, is_same}
 use Rattle.model.proofs.Rows.{row_of_hash, hash_of_row, one_row, reference_row}
-use Rattle.ledger.specs.declared.refusals.Refusal.{Refusal}
 use Rattle.ledger.specs.declared.refusals.Refusal.TheVariants.{NumbersSpent}
 use Rattle.model.specs.Standing.{next_number}
 use Rattle.ledger.specs.State.{Ledger, Collection, has, paths}
-use Rattle.ledger.specs.Calls.{Call, Step, Answer, Marked, Removed, Ended, Refused}
-use Rattle.ledger.specs.Rows.{Row, shut, numbers_spent, step_none, First, Granted, Loose, Removal, Due, due_removal}
-use Rattle.ledger.specs.Rules.{NextWaiting, AllMarked, mark, Answered, refused, marks, removes, ends}
-use Rattle.ledger.specs.Sound.{SoundCollection, SoundLedger}
+use Rattle.ledger.specs.Calls.{Step, Answer, Marked, Removed, Ended, Refused}
+use Rattle.ledger.specs.Rows.{Row, shut, numbers_spent, step_none, Granted, Loose, Removal, due_removal}
+use Rattle.ledger.specs.Rules.{AllMarked, Answered, refused, marks, removes, ends}
+use Rattle.ledger.specs.Sound.{SoundLedger}
 use Rattle.ledger.proofs.Sets.{has_head, has_tail, has_cases, some_same}
 use Rattle.ledger.proofs.Keeps.{has_hashes}
 

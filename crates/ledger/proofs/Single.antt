@@ -1,23 +1,22 @@
 -- The rules leave no two answers.
-use Rattle.std.proofs.Common.{◌≡◌, ℕ, zero, suc, ◌+◌, ◌-◌, ◌^◌, ◌<◌, ◌≤◌, Bool, true, false, not, ◌||◌, ◌≢◌, ◌⊎◌, List, [], ◌∷◌, ◌++◌, map, length, get_or, Some, None, Decides, count_by, Option, sym, refl, ap, ◌∙◌, subst, inl, inr, arith}
+use Rattle.std.proofs.Common.{◌≡◌, ℕ, zero, suc, ◌+◌, ◌<◌, ◌≤◌, Bool, true, false, List, [], ◌∷◌, length, get_or, Some, None, count_by, sym, refl, ap, ◌∙◌, subst, inl, inr, arith}
 use Rattle.std.specs.Str.{bytes_eq}
 use Rattle.std.proofs.lemmas.List.{ext_get_or}
-use Rattle.std.proofs.lemmas.Bool.{cases_Bool, cases_lt, cases_eq, cases_order, or_cases, or_left, both_ways}
+use Rattle.std.proofs.lemmas.Bool.{cases_Bool, cases_eq, cases_order, or_cases, both_ways}
 use Rattle.naming.specs.Hash.{number_of}
 use Rattle.naming.proofs.Digits.{each_below, same_digits}
-use Rattle.model.specs.Lists.{Chain}
-use Rattle.model.specs.Plain.{Bytes, Path, Profile, no_path, blocks, register, switch, remove}
-use Rattle.model.specs.Fits.{has_hash, Whole, Climbing, Registrable, profile}
-use Rattle.model.proofs.Chains.{any_from, any_place}
-use Rattle.model.proofs.Sounds.{same_is, is_same}
+use Rattle.model.specs.Plain.{Bytes, Profile, blocks, register, switch, remove}
+use Rattle.model.specs.Fits.{has_hash, Whole, Climbing, profile}
+use Rattle.model.proofs.Chains.{any_place}
+use Rattle.model.proofs.Sounds.{same_is}
 use Rattle.model.proofs.Rows.{row_of_hash}
 use Rattle.ledger.specs.declared.refusals.Refusal.{Refusal}
 use Rattle.ledger.specs.declared.refusals.Refusal.TheVariants.{Shut, BadArgument, NotRegistered, HashTaken, AlreadyBuilding, NotBuilding, WrongLength, PathsFull, NoFreeRun, TooManyReferences, NoGeneration, GenerationCurrent, ProfileFull, NumbersSpent, CollectionState, WrongSize, BadLabel, BadEntry}
-use Rattle.ledger.specs.State.{Ledger, Build, Collection, has, catalogue, paths, leased, building, the_path}
-use Rattle.ledger.specs.Calls.{Call, Lease, Release, Begin, Put, Seal, Scrap, Commit, Rollback, Switch, Forget, Collect, Step, Open, Find, ClosureOf, Read, Answer, Done, Number, Marked, Removed, Ended, Found, Members, Block, Refused, row}
-use Rattle.ledger.specs.Rows.{Row, First, Granted, BeforeCurrent, Candidate, References, Removal, Due, due_removal, sealed_path, shut, lease_holder, release_holder, begin_holder, begin_name, begin_size, put_holder, put_empty, put_long, seal_holder, scrap_holder, commit_profile, rollback_profile, switch_profile, forget_profile, read_room, read_past, lease_unknown, commit_unknown, closure_unknown, read_unknown, begin_taken, begin_building, put_nothing, seal_nothing, scrap_nothing, put_past, seal_early, begin_full, begin_room, seal_many, rollback_none, switch_none, forget_none, forget_current, commit_six, commit_greatest, numbers_spent, collect_running, step_none}
-use Rattle.ledger.specs.Rules.{with_collection, with_entry, build, lease, seal, waits, begun, longer, mark, NextWaiting, AllMarked, Reserved, ClosureBits, Answered, refused, leases, releases, begins, puts, seals, scraps, commits, rolls_back, switches, forgets, collects, marks, removes, ends, opens, finds, finds_none, closes, reads, cuts_put, cuts_seal, cuts_entry}
-use Rattle.ledger.specs.Sound.{SoundCollection, SoundLedger}
+use Rattle.ledger.specs.State.{Ledger, Build, Collection, has, catalogue, paths, leased, building}
+use Rattle.ledger.specs.Calls.{Call, Seal, Open, Answer, Number, Marked, Removed, Members, Refused, row}
+use Rattle.ledger.specs.Rows.{Row, First, Granted, BeforeCurrent, References, Removal, due_removal, sealed_path, shut, lease_holder, release_holder, begin_holder, begin_name, begin_size, put_holder, put_empty, put_long, seal_holder, scrap_holder, commit_profile, rollback_profile, switch_profile, forget_profile, read_room, read_past, lease_unknown, commit_unknown, closure_unknown, read_unknown, begin_taken, begin_building, put_nothing, seal_nothing, scrap_nothing, put_past, seal_early, begin_full, begin_room, seal_many, rollback_none, switch_none, forget_none, forget_current, commit_six, commit_greatest, numbers_spent, collect_running, step_none}
+use Rattle.ledger.specs.Rules.{with_collection, with_entry, build, lease, seal, waits, begun, longer, mark, NextWaiting, Reserved, ClosureBits, Answered, refused, leases, releases, begins, puts, seals, scraps, commits, rolls_back, switches, forgets, collects, marks, removes, ends, opens, finds, finds_none, closes, reads, cuts_put, cuts_seal, cuts_entry}
+use Rattle.ledger.specs.Sound.{SoundLedger}
 use Rattle.ledger.proofs.Sets.{some_same, has_head, has_tail, has_cases}
 use Rattle.ledger.proofs.Dues.{granted_live, leased_on_lease, not_below}
 use Rattle.ledger.proofs.Cases.{refused_or_granted}

@@ -1,17 +1,17 @@
 -- What an entry leaves for an open to find.
-use Rattle.std.proofs.Common.{◌≡◌, ℕ, zero, suc, ◌+◌, ◌-◌, ◌^◌, ◌<◌, ◌≤◌, Bool, true, false, cond, not, ◌||◌, eqb, ◌≢◌, ◌⊎◌, List, [], ◌∷◌, ◌++◌, map, length, get_or, sym, refl, ap, ◌∙◌, subst, inl, inr, arith}
+use Rattle.std.proofs.Common.{◌≡◌, ℕ, ◌+◌, ◌-◌, ◌^◌, ◌<◌, ◌≤◌, true, false, not, List, [], ◌∷◌, ◌++◌, length, get_or, sym, refl, ap, ◌∙◌, subst, inl, inr, arith}
 use Rattle.std.specs.List.{AllByRecursion as All}
 use Rattle.std.specs.Str.{bytes_eq}
 use Rattle.std.proofs.ByRecursion.{All-get_or}
 use Rattle.std.proofs.lemmas.List.{get_or_append_left, get_or_push, length_push}
 use Rattle.std.proofs.lemmas.Bool.{cases_Bool, cases_lt, both_ways, cond-true, cond-false, eqb-true, eqb-false}
 use Rattle.model.specs.Plain.{Bytes, Path, Catalogue, Entry, register, commit, switch, forget, remove, no_path}
-use Rattle.model.specs.Fits.{has_hash, Registrable, Fits, after, Sound}
+use Rattle.model.specs.Fits.{has_hash, Fits, after, Sound}
 use Rattle.model.specs.Listing.{listing}
 use Rattle.model.proofs.Chains.{kept_each}
 use Rattle.model.proofs.Sounds.{sound_after, same_is, is_same}
 use Rattle.model.proofs.Rows.{listing_short, hash_of_row}
-use Rattle.model.specs.Standing.{Standing, Place, next_number, full, moved, ready, entered}
+use Rattle.model.specs.Standing.{Standing, next_number, full, moved, ready, entered}
 use Rattle.ledger.specs.State.{Content}
 use Rattle.ledger.specs.Rules.{content_with, spares}
 use Rattle.ledger.specs.Sound.{AsSealed, SoundStanding}

@@ -1,17 +1,17 @@
 -- The worked examples hold.
-use Rattle.std.proofs.Common.{◌≡◌, ℕ, zero, suc, ◌+◌, ◌-◌, ◌^◌, ◌<◌, ◌≤◌, Bool, true, false, ◌||◌, ◌⊎◌, List, [], ◌∷◌, ◌++◌, length, get_or, Some, None, codes, Option, sym, refl, ap, ◌∙◌, subst, inl, inr, arith}
+use Rattle.std.proofs.Common.{◌≡◌, ℕ, zero, suc, ◌-◌, ◌^◌, ◌<◌, ◌≤◌, true, false, ◌||◌, [], ◌∷◌, get_or, Some, None, codes, sym, refl, subst, inl, inr, arith}
 use Rattle.std.specs.Str.{bytes_eq}
 use Rattle.std.proofs.lemmas.Bool.{or_cases, both_ways}
 use Rattle.naming.specs.Hash.{hash_part, number_of}
-use Rattle.naming.specs.Name.{allowed, Lawful}
-use Rattle.model.specs.Plain.{Bytes, Path, no_path, blocks}
-use Rattle.model.specs.Fits.{has_hash, refers}
+use Rattle.naming.specs.Name.{allowed}
+use Rattle.model.specs.Plain.{Bytes, no_path, blocks}
+use Rattle.model.specs.Fits.{refers}
 use Rattle.model.proofs.Sounds.{same_is}
 use Rattle.model.specs.Standing.{next_number}
-use Rattle.ledger.specs.State.{Ledger, Collection, has, paths, fresh}
-use Rattle.ledger.specs.Calls.{Call, Collect, Step, Open, Done, Marked, Removed, Ended}
-use Rattle.ledger.specs.Rows.{Row, shut, numbers_spent, collect_running, Granted, Loose, Removal, Due, due_removal}
-use Rattle.ledger.specs.Rules.{with_collection, with_entry, NextWaiting, AllMarked, Reserved, Answered, collects, marks, removes, ends, Run, start, then}
+use Rattle.ledger.specs.State.{Ledger, Collection, has, fresh}
+use Rattle.ledger.specs.Calls.{Collect, Step, Done, Marked, Removed, Ended}
+use Rattle.ledger.specs.Rows.{shut, numbers_spent, collect_running, Granted, Removal, due_removal}
+use Rattle.ledger.specs.Rules.{with_collection, with_entry, NextWaiting, AllMarked, Reserved, collects, marks, removes, ends, Run, start, then}
 use Rattle.ledger.specs.Examples.{letters_a, letters_d, empty_path, two_paths, Examples}
 use Rattle.ledger.proofs.Progress.{step_row}
 use Rattle.model.specs.Plain.{remove}

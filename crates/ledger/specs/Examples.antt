@@ -1,5 +1,5 @@
 -- Worked examples of the rules.
-use Rattle.std.specs.Prelude.{◌≡◌, ℕ, true, List, [], ◌∷◌, ◌++◌, replicate, None, codes, Option}
+use Rattle.std.specs.Prelude.{◌≡◌, true, [], ◌∷◌, ◌++◌, replicate, None, codes}
 use Rattle.naming.specs.Hash.{hash_part}
 use Rattle.naming.specs.Name.{Lawful}
 use Rattle.model.specs.Plain.{Bytes, Path, unused}

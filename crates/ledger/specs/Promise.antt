@@ -1,12 +1,11 @@
 -- What follows from the rules alone, of every run from a fresh card.
-use Rattle.std.specs.Prelude.{◌≡◌, ℕ, ◌+◌, ◌-◌, ◌*◌, ◌<◌, ◌≤◌, min, Bool, true, false, not, ◌||◌, ◌⊎◌, List, [], ◌∷◌, ◌++◌, map, length, Some, None, Option, ◌≢◌}
+use Rattle.std.specs.Prelude.{◌≡◌, ℕ, ◌+◌, ◌-◌, ◌*◌, min, true, ◌⊎◌, List, [], ◌∷◌, ◌++◌, length, Some, ◌≢◌}
 use Rattle.std.specs.List.{AllByRecursion as All}
-use Rattle.model.specs.Plain.{Bytes, Path, Catalogue, Entry}
+use Rattle.model.specs.Plain.{Bytes, Path, Entry}
 use Rattle.model.specs.Fits.{Makes}
-use Rattle.ledger.specs.declared.refusals.Refusal.{Refusal}
 use Rattle.ledger.specs.declared.refusals.Refusal.TheVariants.{Shut}
 use Rattle.model.specs.Standing.{Standing}
-use Rattle.ledger.specs.State.{Ledger, Build, Content, Collection, building, paths, fresh}
+use Rattle.ledger.specs.State.{Ledger, Build, Collection, building, paths, fresh}
 use Rattle.ledger.specs.Calls.{Call, Lease, Release, Begin, Put, Seal, Scrap, Commit, Rollback, Switch, Forget, Collect, Step, Open, Find, ClosureOf, Read, Answer, Done, Number, Marked, Removed, Ended, Found, Members, Block, Refused}
 use Rattle.ledger.specs.Rows.{References}
 use Rattle.ledger.specs.Rules.{content_with, content_block, MayFind, opened, Answered, Kept, Run}

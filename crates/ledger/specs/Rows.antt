@@ -1,5 +1,5 @@
 -- When a call is refused: one line for each call and row of the table. Rows are looked at from the top.
-use Rattle.std.specs.Prelude.{◌≡◌, ℕ, ◌+◌, ◌-◌, ◌*◌, ◌^◌, ◌<◌, ◌≤◌, max, Bool, true, false, ◌||◌, List, [], ◌∷◌, length, get_or, take, drop, Some, None, Option, ◌≢◌, slice_index_or}
+use Rattle.std.specs.Prelude.{◌≡◌, ℕ, ◌+◌, ◌-◌, ◌^◌, ◌<◌, ◌≤◌, max, true, false, ◌||◌, List, [], ◌∷◌, length, get_or, take, drop, Some, None, ◌≢◌, slice_index_or}
 use Rattle.std.specs.Str.{bytes_eq}
 use Rattle.naming.specs.Hash.{hash_part, number_of}
 use Rattle.naming.specs.Name.{Lawful}
@@ -8,7 +8,7 @@ use Rattle.model.specs.Fits.{has_hash, has_number, refers, profile, Climbing}
 use Rattle.model.specs.Free.{Free}
 use Rattle.model.specs.Standing.{next_number}
 use Rattle.ledger.specs.State.{Ledger, Build, Collection, has, catalogue, paths, leased, building, half_built, builds_hash, taken, the_path}
-use Rattle.ledger.specs.Calls.{Call, Lease, Release, Begin, Put, Seal, Scrap, Commit, Rollback, Switch, Forget, Collect, Step, Open, Find, ClosureOf, Read}
+use Rattle.ledger.specs.Calls.{Call, Lease, Release, Begin, Put, Seal, Scrap, Commit, Rollback, Switch, Forget, Collect, Step, Open, ClosureOf, Read}
 
 abbrev pub generations : Ledger → ℕ → List Generation
 generations l p = (profile (catalogue l) p).generations

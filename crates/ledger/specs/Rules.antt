@@ -2,14 +2,14 @@
 use Rattle.std.specs.Prelude.{◌≡◌, ℕ, ◌+◌, ◌-◌, ◌*◌, ◌<◌, ◌≤◌, min, Bool, true, false, cond, not, ◌||◌, ◌⊎◌, List, [], ◌∷◌, ◌++◌, map, length, get_or, take, drop, replicate, Some, None, Decides, count_by, filter, Option, ◌≢◌, slice_index_or, slice_set}
 use Rattle.std.specs.Str.{bytes_eq}
 use Rattle.naming.specs.Hash.{number_of}
-use Rattle.model.specs.Plain.{Bytes, Path, Catalogue, Entry, register, commit, switch, forget, remove, no_path, blocks}
+use Rattle.model.specs.Plain.{Bytes, Path, Entry, register, commit, switch, forget, remove, no_path, blocks}
 use Rattle.model.specs.Fits.{has_hash, profile, Whole, Registered}
 use Rattle.model.specs.Free.{LastFree}
 use Rattle.model.specs.Closure.{Closure}
 use Rattle.ledger.specs.declared.refusals.Refusal.{Refusal}
 use Rattle.ledger.specs.declared.refusals.Refusal.TheVariants.{Shut}
 use Rattle.model.specs.Standing.{Standing, full, moved, entered}
-use Rattle.ledger.specs.State.{Ledger, Build, Content, Collection, has, catalogue, paths, leased, building, taken, the_path, root, fresh}
+use Rattle.ledger.specs.State.{Ledger, Build, Content, Collection, has, catalogue, paths, leased, building, taken, the_path, root}
 use Rattle.ledger.specs.Calls.{Call, Lease, Release, Begin, Put, Seal, Scrap, Commit, Rollback, Switch, Forget, Collect, Step, Open, Find, ClosureOf, Read, Answer, Done, Number, Marked, Removed, Ended, Found, Members, Block, Refused, row}
 use Rattle.ledger.specs.Rows.{generations, greatest, References, Due, First, Granted, sealed_path, BeforeCurrent}
 

@@ -1,5 +1,5 @@
 -- What holds of every ledger that a run reaches.
-use Rattle.std.specs.Prelude.{◌≡◌, ℕ, ◌+◌, ◌-◌, ◌^◌, ◌<◌, ◌≤◌, Bool, true, false, ◌||◌, List, [], length, get_or, Some, None, Option, ◌≢◌, slice_index_or}
+use Rattle.std.specs.Prelude.{◌≡◌, ℕ, ◌+◌, ◌-◌, ◌^◌, ◌<◌, ◌≤◌, Bool, true, false, ◌||◌, List, [], length, get_or, Some, ◌≢◌, slice_index_or}
 use Rattle.naming.specs.Name.{Lawful}
 use Rattle.model.specs.Plain.{Bytes, Path, no_path, run}
 use Rattle.model.specs.Fits.{has_hash, refers, Whole, Apart, InData, Sound}
