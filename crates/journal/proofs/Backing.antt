@@ -1,16 +1,14 @@
 -- How the blocks of a card back a catalogue, from one write to the next. No disk is in it: only sets of contents.
-use Rattle.std.proofs.Common.{◌≡◌, ℕ, zero, suc, ◌+◌, ◌-◌, ◌^◌, ◌<◌, ◌≤◌, Bool, true, false, cond, ◌≢◌, ◌⊎◌, List, [], ◌∷◌, ◌++◌, length, get_or, sym, refl, ap, ◌∙◌, subst, inl, inr, arith}
+use Rattle.std.proofs.Common.{◌≡◌, ℕ, ◌+◌, ◌-◌, ◌^◌, ◌<◌, ◌≤◌, ◌≢◌, ◌⊎◌, List, [], ◌∷◌, ◌++◌, length, get_or, sym, refl, ap, ◌∙◌, subst, inl, inr, arith}
 use Rattle.std.proofs.lemmas.List.{length_push, get_or_append_left, get_or_push}
-use Rattle.std.proofs.lemmas.Bool.{cases_lt, cases_eq, cond-true, cond-false, eq-eqb, ne_eqb}
-use Rattle.model.specs.Plain.{Catalogue, Entry}
-use Rattle.model.specs.Fits.{Fits, after, Makes, then, Sound}
+use Rattle.std.proofs.lemmas.Bool.{cases_lt, cond-true, cond-false, eq-eqb, ne_eqb}
+use Rattle.model.specs.Plain.{Entry}
+use Rattle.model.specs.Fits.{Fits, after, then, Sound}
 use Rattle.model.specs.Listing.{listing}
-use Rattle.model.specs.Standing.{Place, Standing, next_number, full, moved, ready, entered}
+use Rattle.model.specs.Standing.{Standing, next_number, full, moved, ready, entered}
 use Rattle.model.proofs.Sounds.{makes_sound}
 use Rattle.model.proofs.Listings.{listing_makes}
 use Rattle.model.proofs.Rows.{listing_short}
-use Rattle.card.specs.Fields.{read, number_field}
-use Rattle.card.specs.Entries.{Says, Marked}
 use Rattle.card.specs.Label.{Half, InRange, Labels}
 use Rattle.journal.specs.Blocks.{no_entry}
 use Rattle.journal.specs.Appends.{Listed}

@@ -1,19 +1,17 @@
 -- The change of halves, from the listing to the label.
-use Rattle.std.proofs.Common.{◌≡◌, ℕ, ◌+◌, ◌-◌, ◌^◌, ◌<◌, ◌≤◌, true, false, ◌⊎◌, List, [], length, Ok, Err, Result, sym, refl, ap, ◌∙◌, subst, inl, inr, arith}
+use Rattle.std.proofs.Common.{◌≡◌, ℕ, ◌+◌, ◌≤◌, List, length, Ok, Err, sym, refl, ap, ◌∙◌, subst, inl, inr, arith}
 use Rattle.disk.specs.declared.Fault.{Fault}
 use Rattle.disk.specs.declared.Fault.TheVariants.{Dark, NoBlock}
 use Rattle.disk.specs.Meaning.{Meaning}
-use Rattle.model.specs.Plain as plain
 use Rattle.model.specs.Listing.{listing}
 use Rattle.model.specs.Standing as model
 use Rattle.catalogue.specs.declared.catalogues.Catalogue.{Catalogue}
 use Rattle.catalogue.specs.Whole.{catalogue_of}
 use Rattle.card.specs.Label.{Half, Labels}
 use Rattle.journal.specs.Blocks.{no_entry}
-use Rattle.journal.specs.Backed.{Sets, other, next_half, Backed}
-use Rattle.journal.specs.Steps.{Put, SettledWith, CutWith, DataKept, Found}
-use Rattle.journal.specs.View.{start_of, half_with, place_of, standing_of, BackedBy}
-use Rattle.journal.specs.Appends.{Listed, ListsInto, ListingDone, ListingPut, LabelPut, InEitherHalf, Ready, Changed, ChangedDone, ChangedCut}
+use Rattle.journal.specs.Backed.{other, next_half, Backed}
+use Rattle.journal.specs.View.{start_of, half_with, standing_of}
+use Rattle.journal.specs.Appends.{Listed, ListsInto, ListingPut, LabelPut, InEitherHalf, Ready, Changed}
 use Rattle.journal.specs.declared.place.Place.{Place}
 use Rattle.journal.proofs.Cuts.{backed_found, label_done, label_cut}
 use Rattle.journal.proofs.Steps.{settled_kept, cut_kept, kept_more}

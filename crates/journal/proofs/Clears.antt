@@ -1,10 +1,10 @@
 -- A write that fails while the halves are cleared.
-use Rattle.std.proofs.Common.{◌≡◌, ℕ, ◌+◌, ◌<◌, ◌≤◌, true, false, ◌⊎◌, List, Ok, Err, Result, sym, refl, ap, ◌∙◌, inl, inr, arith}
+use Rattle.std.proofs.Common.{◌≡◌, ℕ, ◌≤◌, true, Err, ◌∙◌, inl, inr, arith}
 use Rattle.std.proofs.lemmas.Bool.{both_ways}
 use Rattle.disk.specs.declared.Fault.{Fault}
 use Rattle.disk.specs.declared.Fault.TheVariants.{Dark, NoBlock}
 use Rattle.disk.specs.Meaning.{Meaning, Write}
-use Rattle.journal.specs.Steps.{zeros, Zeroed, Clear, InHalves}
+use Rattle.journal.specs.Steps.{zeros, Zeroed, Clear}
 
 pub clear_broken : (m m₁ m₂ : Meaning) (b : ℕ) (fault : Fault) → (m.lit ≡ true → Zeroed m b m₁) → 1 ≤ b → b ≤ 128 → Write m₁ b zeros (Err fault) m₂ → Clear m (Err fault) m₂
 clear_broken m m₁ m₂ b NoBlock zeroed low high write = λ lit. omega (arith, write.1, (zeroed lit).size)

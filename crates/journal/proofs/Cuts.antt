@@ -1,15 +1,15 @@
 -- What a cut leaves, at each write of an append: before, after, or the same catalogue in the other half.
-use Rattle.std.proofs.Common.{◌≡◌, ℕ, ◌+◌, ◌-◌, ◌^◌, ◌<◌, ◌≤◌, true, false, ◌≢◌, ◌⊎◌, List, [], length, get_or, sym, refl, ap, ◌∙◌, subst, inl, inr, arith}
+use Rattle.std.proofs.Common.{◌≡◌, ℕ, ◌+◌, ◌-◌, ◌^◌, ◌<◌, ◌≤◌, ◌≢◌, ◌⊎◌, List, length, get_or, sym, ap, ◌∙◌, subst, inl, inr, arith}
 use Rattle.std.proofs.lemmas.Bool.{cases_eq}
 use Rattle.disk.specs.Meaning.{Meaning, Choice, GainsOnly}
 use Rattle.model.specs.Plain.{Entry}
 use Rattle.model.specs.Fits.{Fits}
 use Rattle.model.specs.Listing.{listing}
 use Rattle.model.specs.Standing.{Standing, next_number, moved, entered}
-use Rattle.card.specs.Label.{Half, InRange, Labels}
+use Rattle.card.specs.Label.{Half, Labels}
 use Rattle.journal.specs.Blocks.{Blocks, no_entry}
 use Rattle.journal.specs.Backed.{Sets, other, IsEntry, next_half, Backed}
-use Rattle.journal.specs.Steps.{alone, SettledWith, CutWith, DataKept, Found, BeforeOrAfter, as_before, as_moved, as_after}
+use Rattle.journal.specs.Steps.{alone, SettledWith, CutWith, Found}
 use Rattle.journal.specs.Appends.{Listed}
 use Rattle.journal.proofs.Backing.{Replaced, Smaller, backed_smaller, backed_entered, backed_listing, listed_more, backed_moved}
 

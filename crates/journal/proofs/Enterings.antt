@@ -1,8 +1,8 @@
 -- An entry appended, with the change of halves where it is due.
-use Rattle.std.proofs.Common.{◌≡◌, ℕ, ◌+◌, ◌-◌, ◌^◌, ◌<◌, ◌≤◌, true, false, ◌⊎◌, List, [], length, Ok, Err, Result, sym, refl, ap, ◌∙◌, subst, inl, inr, arith}
+use Rattle.std.proofs.Common.{◌≡◌, ℕ, ◌+◌, ◌-◌, ◌^◌, ◌<◌, ◌≤◌, length, Ok, Err, Result, sym, refl, ap, ◌∙◌, subst, inl, inr, arith}
 use Rattle.disk.specs.declared.Fault.{Fault}
 use Rattle.disk.specs.declared.Fault.TheVariants.{Dark, NoBlock}
-use Rattle.disk.specs.Meaning.{Meaning, Choice}
+use Rattle.disk.specs.Meaning.{Meaning}
 use Rattle.model.specs.Plain.{Catalogue, Entry}
 use Rattle.model.specs.Fits.{Fits, after}
 use Rattle.model.specs.Listing.{listing}
@@ -12,11 +12,10 @@ use Rattle.model.proofs.Rows.{listing_short}
 use Rattle.catalogue.specs.declared.catalogues.Catalogue.{Catalogue as RustCatalogue}
 use Rattle.catalogue.specs.Whole.{catalogue_of}
 use Rattle.card.specs.Label.{Half}
-use Rattle.journal.specs.Blocks.{Blocks}
-use Rattle.journal.specs.Backed.{Sets, IsEntry, Backed}
-use Rattle.journal.specs.Steps.{alone, Put, SettledWith, CutWith, DataKept, Found, BeforeOrAfter, as_before, as_moved, as_after}
-use Rattle.journal.specs.View.{start_of, half_with, place_of, standing_of, BackedBy}
-use Rattle.journal.specs.Appends.{EntryPut, InEitherHalf, Ready, Changed, AppendDone, AppendCut, AppendTo, Enters, Appends}
+use Rattle.journal.specs.Backed.{Backed}
+use Rattle.journal.specs.Steps.{Found, BeforeOrAfter, as_before, as_moved, as_after}
+use Rattle.journal.specs.View.{start_of, half_with, standing_of, BackedBy}
+use Rattle.journal.specs.Appends.{EntryPut, InEitherHalf, Changed, Enters, Appends}
 use Rattle.journal.specs.declared.place.Place.{Place}
 use Rattle.journal.proofs.Backing.{start_low, entered_is, entered_moved}
 use Rattle.journal.proofs.Cuts.{entry_done, entry_cut}

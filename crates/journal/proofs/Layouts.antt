@@ -1,26 +1,21 @@
 -- A card made new, stage by stage.
-use Rattle.std.proofs.Common.{◌≡◌, ℕ, ◌+◌, ◌-◌, ◌^◌, ◌<◌, ◌≤◌, true, false, ◌⊎◌, List, [], length, Ok, Err, Result, sym, refl, ap, ◌∙◌, subst, inl, inr, arith}
+use Rattle.std.proofs.Common.{◌≡◌, ℕ, ◌+◌, ◌-◌, ◌<◌, ◌≤◌, List, [], Ok, Err, sym, refl, ap, ◌∙◌, subst, inl, inr, arith}
 use Rattle.std.proofs.lemmas.Bool.{both_ways}
 use Rattle.disk.specs.declared.Fault.{Fault}
 use Rattle.disk.specs.declared.Fault.TheVariants.{Dark, NoBlock}
 use Rattle.disk.specs.Meaning.{Meaning, Restarted}
-use Rattle.model.specs.Plain as plain
 use Rattle.model.specs.Plain.{nothing}
-use Rattle.catalogue.specs.declared.catalogues.Catalogue.{Catalogue}
-use Rattle.catalogue.specs.Whole.{catalogue_of}
 use Rattle.model.specs.Fits.{start}
 use Rattle.model.specs.Standing as model
-use Rattle.card.specs.Fields.{read, number_field}
-use Rattle.card.specs.Label.{Half, Labels}
+use Rattle.card.specs.Label.{Labels}
 use Rattle.journal.specs.Backed.{Sets, Old, Backed}
-use Rattle.journal.specs.Steps.{alone, Put, SettledWith, CutWith, Clear, Cleared, NotCleared, InHalves, zeros, DataKept, CardSized}
-use Rattle.journal.specs.View.{start_of, half_with, place_of, standing_of, BackedBy}
+use Rattle.journal.specs.Steps.{alone, Put, Clear, Cleared, zeros, DataKept, CardSized}
+use Rattle.journal.specs.View.{start_of, half_with, place_of, standing_of}
 use Rattle.journal.specs.Appends.{LabelPut}
-use Rattle.journal.specs.Formats.{NewCard, FormatCut, EmptyCard, LayingOut, LaidOut, DataFound, Formatted}
+use Rattle.journal.specs.Formats.{NewCard, FormatCut, LayingOut, LaidOut, DataFound, Formatted}
 use Rattle.journal.specs.declared.formatting.FormatError.TheVariants.{Failed}
 use Rattle.journal.specs.declared.place.Place.{Place}
-use Rattle.journal.specs.declared.place.Side.{Side}
-use Rattle.journal.specs.declared.place.Side.TheVariants.{Lower, Upper}
+use Rattle.journal.specs.declared.place.Side.TheVariants.{Lower}
 use Rattle.journal.proofs.Steps.{settled_kept, cut_kept, kept_more}
 
 -- The halves cleared, or not.

@@ -6,4 +6,3 @@ pub mod Steps
 pub mod Changes
 pub mod Enterings
 pub mod Layouts
-pub mod Keepings

@@ -1,22 +1,21 @@
 -- What each call of an append does to a card that is backed.
-use Rattle.std.proofs.Common.{◌≡◌, ℕ, ◌+◌, ◌-◌, ◌^◌, ◌<◌, ◌≤◌, true, false, ◌≢◌, ◌⊎◌, List, [], length, get_or, Ok, Err, Result, sym, refl, ap, ◌∙◌, subst, inl, inr, arith}
+use Rattle.std.proofs.Common.{◌≡◌, ℕ, ◌+◌, ◌<◌, ◌≤◌, true, false, ◌⊎◌, List, length, get_or, Ok, Err, sym, refl, ap, ◌∙◌, subst, inl, inr, arith}
 use Rattle.disk.specs.declared.Fault.{Fault}
 use Rattle.disk.specs.declared.Fault.TheVariants.{Dark, NoBlock}
 use Rattle.disk.specs.Meaning.{Meaning}
 use Rattle.model.specs.Plain.{Catalogue, Entry}
-use Rattle.model.specs.Fits.{Fits}
 use Rattle.model.specs.Listing.{listing}
 use Rattle.model.specs.Standing as model
 use Rattle.card.specs.Label.{Half, InRange, Labels}
 use Rattle.journal.specs.Blocks.{no_entry}
-use Rattle.journal.specs.Backed.{Sets, other, IsEntry, next_half, Backed}
-use Rattle.journal.specs.Steps.{Put, SettledWith, CutWith, DataKept, Found}
+use Rattle.journal.specs.Backed.{other, IsEntry, next_half, Backed}
+use Rattle.journal.specs.Steps.{SettledWith, CutWith, DataKept}
 use Rattle.journal.specs.View.{start_of, half_with}
 use Rattle.journal.specs.Appends.{EntryPut, Listed, ListsInto, ListingDone}
 use Rattle.journal.specs.declared.place.Place.{Place}
 use Rattle.journal.specs.declared.place.Side.{Side}
 use Rattle.journal.specs.declared.place.Side.TheVariants.{Lower, Upper}
-use Rattle.journal.proofs.Backing.{start_low, other_low}
+use Rattle.journal.proofs.Backing.{other_low}
 use Rattle.journal.proofs.Cuts.{listing_done, listing_cut}
 
 -- A block below the data is written: the data is kept.

@@ -17,7 +17,7 @@ returns-in_err-put_label g c =
     }
 
 pub invariant_of-next-2 : goal.invariant_of-next-2
-invariant_of-next-2 g c = (omega arith, (omega arith, (omega (arith, c.in_ok-count.ensures.few), tt)))
+invariant_of-next-2 g c = record { low = omega arith; high = omega arith; room = omega (arith, c.in_ok-count.ensures.few) }
 
 pub returns : goal.returns
 returns g c =
