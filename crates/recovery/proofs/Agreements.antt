@@ -1,9 +1,9 @@
 -- Two readings of the same blocks agree: a card that is whole is read as one catalogue, and is not damaged.
-use Rattle.std.proofs.Common.{◌≡◌, ℕ, ◌+◌, ◌<◌, ◌≤◌, ◌⊎◌, List, length, get_or, take, sym, refl, ap, ◌∙◌, subst, inl, inr, arith}
+use Rattle.std.proofs.Common.{◌≡◌, ℕ, ◌+◌, ◌<◌, ◌≤◌, ◌⊎◌, List, length, get_or, take, sym, ap, ◌∙◌, subst, inl, inr, arith}
 use Rattle.std.proofs.lemmas.List.{ext_get_or, get_or-take, length-take-le, take_all}
 use Rattle.std.proofs.lemmas.Bool.{cases_lt}
 use Rattle.model.specs.Plain.{Catalogue, Entry}
-use Rattle.model.specs.Fits.{Fits, Makes}
+use Rattle.model.specs.Fits.{Fits}
 use Rattle.model.proofs.Makings.{makes_fits, makes_once}
 use Rattle.card.specs.Entries.{Says}
 use Rattle.card.specs.Label.{Half, Labels}

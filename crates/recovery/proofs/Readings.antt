@@ -1,16 +1,15 @@
 -- The half that a label names, read to its end or to the first entry that is wrong.
-use Rattle.std.proofs.Common.{◌≡◌, ℕ, ◌+◌, ◌<◌, ◌≤◌, true, false, ◌⊎◌, List, length, Ok, Err, Result, sym, refl, ap, ◌∙◌, subst, inl, inr, arith}
+use Rattle.std.proofs.Common.{◌≡◌, ℕ, ◌+◌, ◌<◌, ◌≤◌, true, List, length, Ok, Err, Result, sym, refl, ap, ◌∙◌, subst, inl, inr, arith}
 use Rattle.std.proofs.lemmas.Bool.{both_ways}
 use Rattle.disk.specs.Meaning.{Meaning}
 use Rattle.model.specs.Plain.{Entry}
 use Rattle.model.specs.Fits.{Fits}
 use Rattle.catalogue.specs.declared.catalogues.Catalogue.{Catalogue}
 use Rattle.catalogue.specs.Whole.{catalogue_of}
-use Rattle.card.specs.Entries.{Says}
-use Rattle.card.specs.Label.{Half, Labels}
+use Rattle.card.specs.Label.{Labels}
 use Rattle.card.specs.View.{half_of}
 use Rattle.card.specs.declared.label.Label.{Label}
-use Rattle.recovery.specs.Loads.{Counts, Reads, Ends, Whole, Damaged}
+use Rattle.recovery.specs.Loads.{Counts, Reads, Ends, Whole}
 use Rattle.journal.specs.View.{start_of, half_with}
 use Rattle.journal.specs.Steps.{CardSized}
 use Rattle.recovery.specs.Loaded.{FreshFor, EntriesRead, LabelRead, Loaded, HalfFound, HalfRead}

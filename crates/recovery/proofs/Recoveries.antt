@@ -7,7 +7,6 @@ use Rattle.model.specs.Standing.{Standing}
 use Rattle.catalogue.specs.declared.catalogues.Catalogue.{Catalogue}
 use Rattle.catalogue.specs.Whole.{catalogue_of}
 use Rattle.card.specs.Label.{Half}
-use Rattle.journal.specs.Appends.{Ready}
 use Rattle.journal.specs.Backed.{Backed}
 use Rattle.journal.specs.Blocks.{Blocks}
 use Rattle.recovery.specs.Loads.{Whole}

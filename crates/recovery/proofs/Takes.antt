@@ -1,5 +1,5 @@
 -- The entry of a block, applied or not.
-use Rattle.std.proofs.Common.{◌≡◌, ℕ, ◌+◌, ◌<◌, Bool, true, false, List, [], ◌∷◌, ◌++◌, length, is_ok, Ok, Err, Result, sym, refl, ap, ◌∙◌, subst, inl, inr, arith}
+use Rattle.std.proofs.Common.{◌≡◌, ℕ, ◌+◌, ◌<◌, true, List, [], ◌∷◌, ◌++◌, length, is_ok, Ok, Err, Result, sym, refl, ap, ◌∙◌, subst, inl, inr, arith}
 use Rattle.std.proofs.lemmas.List.{length_push, get_or_append_left, get_or_push}
 use Rattle.std.proofs.lemmas.Bool.{cases_lt}
 use Rattle.disk.specs.Meaning.{Meaning}
@@ -11,7 +11,7 @@ use Rattle.catalogue.specs.Applied.{Applied}
 use Rattle.catalogue.specs.Whole.{catalogue_of}
 use Rattle.card.specs.Entries.{Says}
 use Rattle.journal.specs.Blocks.{no_entry}
-use Rattle.recovery.specs.Loads.{Counts, Reads}
+use Rattle.recovery.specs.Loads.{Counts}
 use Rattle.recovery.specs.Loaded.{Took, FreshFor, SoFar}
 use Rattle.journal.specs.View.{start_of, half_with}
 use Rattle.journal.specs.declared.place.Place.{Place}
