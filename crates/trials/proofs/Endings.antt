@@ -1,9 +1,8 @@
 -- How a trial ends, from what each of its operations did to the disk.
-use Rattle.std.proofs.Common.{◌≡◌, ℕ, ◌<◌, Bool, true, false, ◌⊎◌, List, get_or, is_ok, Ok, Err, Result, sym, refl, ap, ◌∙◌, inl, inr, arith}
+use Rattle.std.proofs.Common.{◌≡◌, ℕ, ◌<◌, Bool, false, ◌⊎◌, get_or, is_ok, Ok, Err, Result, sym, refl, ap, ◌∙◌, inl, inr, arith}
 use Rattle.disk.specs.declared.Fault.{Fault}
 use Rattle.disk.specs.declared.Fault.TheVariants.{Dark, NoBlock}
 use Rattle.disk.specs.Meaning.{Meaning, Block, GainsNone, Written, Passed, Barrier, Restarted}
-use Rattle.trials.specs.declared.Outcome.{Outcome}
 use Rattle.trials.specs.Tried.{full_of, GainsTwo, Ended}
 
 -- With which content the block may be found.
