@@ -37,7 +37,7 @@ order_refl : (t : List ℕ) → text_order t t ≡ Equal
 order_refl [] = refl
 order_refl (x ∷ t) = ap₂ ordering_then (order_equal x x refl) (order_refl t)
 
-same_number : (g h : Hash) → number_of g.bytes ≡ number_of h.bytes → g ≡ h
+pub same_number : (g h : Hash) → number_of g.bytes ≡ number_of h.bytes → g ≡ h
 same_number g h e = same_hash g h (same_digits 256 g.bytes h.bytes (g.whole ∙ sym h.whole) g.small h.small e)
 
 pub same_part : (g h : Hash) → hash_part g.bytes ≡ hash_part h.bytes → g ≡ h

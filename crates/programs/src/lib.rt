@@ -1,14 +1,15 @@
 // The programs of a cutting table, each by hash and name. They are ordered by hash.
 #![tactic(auto)]
 
-ghost use Rattle.naming.specs.Hash.{hash_part};
+ghost use Rattle.naming.specs.Hash.{hash_part, number_of};
 ghost use Rattle.naming.specs.Name.{Lawful};
 ghost use Rattle.naming.specs.Order.{HashOrder};
 ghost use Rattle.naming.specs.Texts.{name_text};
-ghost use Rattle.std.specs.Prelude.{◌≡◌, ◌⊎◌, IsSomeAnd, Decides, MatchOption, ◌≢◌};
+ghost use Rattle.std.specs.Prelude.{◌≡◌, ◌⊎◌, IsSomeAnd, Decides, MatchOption, Some, ◌≢◌, ◌==◌};
 ghost use Rattle.std.specs.Cmp.Rules.{comparing};
 ghost use Rattle.std.proofs.Common.{rules};
-ghost use Rattle.std.specs.Cmp as Keys;
+ghost use Rattle.std.specs.Cmp.{partial_order_from_own_ties};
+ghost use Rattle.std.specs.Ordering.{as_partial_cmp, nat_cmp, on};
 
 use naming::{Hash, Name};
 use std::cmp::Ordering;
@@ -32,12 +33,15 @@ impl Program {
     }
 }
 
-impl PartialEq<Program> for Program {
-    ghost equals = { λ p q r. Decides r (p.hash ≡ q.hash) };
+impl PartialEq for Program {
+    ghost eq = { on (λ p. number_of p.hash.bytes) ◌==◌ };
 
-    ghost laws = { Keys.partial_equiv_from_equiv (Prim.search (comparing, rules)) };
+    ghost laws = { Prim.search (comparing, rules) };
 
-    fn eq(&self, other: &Program) -> bool {
+    fn eq(&self, other: &Program) -> bool
+        ensures eq { result ≡ (number_of self.now.hash.bytes == number_of other.now.hash.bytes) }
+        ensures same { Decides result (self.now.hash ≡ other.now.hash) }
+    {
         self.hash == other.hash
     }
 }
@@ -46,18 +50,21 @@ impl Eq for Program {
     ghost laws = { Prim.search (comparing, rules) };
 }
 
-impl PartialOrd<Program> for Program {
-    ghost compares = { λ p q r. IsSomeAnd r (HashOrder p.hash q.hash) };
+impl PartialOrd for Program {
+    ghost partial_cmp = { as_partial_cmp (on (λ p. number_of p.hash.bytes) nat_cmp) };
 
-    ghost laws = { Prim.search (comparing, rules) };
+    ghost laws = { partial_order_from_own_ties (Prim.search (comparing, rules)) (Prim.search (comparing, rules)) };
 
-    fn partial_cmp(&self, other: &Program) -> Option<Ordering> {
+    fn partial_cmp(&self, other: &Program) -> Option<Ordering>
+        ensures cmp { result ≡ Some (nat_cmp (number_of self.now.hash.bytes) (number_of other.now.hash.bytes)) }
+        ensures order { IsSomeAnd result (HashOrder self.now.hash other.now.hash) }
+    {
         Some(self.cmp(other))
     }
 }
 
 impl Ord for Program {
-    ghost orders = { λ p q. HashOrder p.hash q.hash };
+    ghost cmp = { on (λ p. number_of p.hash.bytes) nat_cmp };
 
     ghost total = { Prim.search (comparing, rules) };
 
@@ -65,7 +72,10 @@ impl Ord for Program {
 
     ghost matches_eq = { Prim.search (comparing, rules) };
 
-    fn cmp(&self, other: &Program) -> Ordering {
+    fn cmp(&self, other: &Program) -> Ordering
+        ensures cmp { result ≡ nat_cmp (number_of self.now.hash.bytes) (number_of other.now.hash.bytes) }
+        ensures order { HashOrder self.now.hash other.now.hash result }
+    {
         self.hash.compare(&other.hash)
     }
 }

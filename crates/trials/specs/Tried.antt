@@ -33,8 +33,13 @@ pub record CutShort (m : Meaning) (old new : ℕ) (m' : Meaning) : Type 0 where
   pub dark : m'.lit ≡ false
   pub gains : GainsTwo m old new m'
 
+-- The new content; or the old one, where the barrier after the new one was not done.
+abbrev pub Tried : ℕ → ℕ → Result Outcome Fault → Type 0
+Tried old new (Ok o) = (o.found ≡ new) ⊎ ((o.found ≡ old) × (o.settled ≡ false))
+Tried old new (Err _) = Unit {0}
+
 -- A dark disk is refused, and one without blocks; nothing has changed then. A lit disk with a block is refused only where it goes dark on the way.
-abbrev pub Tried : Meaning → ℕ → ℕ → Result Outcome Fault → Meaning → Type 0
-Tried m old new (Ok o) m' = Ended m old new o m'
-Tried m old new (Err Dark) m' = ((m.lit ≡ false) × Same m m') ⊎ CutShort m old new m'
-Tried m old new (Err NoBlock) m' = (m.lit ≡ true) × (m.blocks ≡ 0) × Same m m'
+abbrev pub TriedOn : Meaning → ℕ → ℕ → Result Outcome Fault → Meaning → Type 0
+TriedOn m old new (Ok o) m' = Ended m old new o m'
+TriedOn m old new (Err Dark) m' = ((m.lit ≡ false) × Same m m') ⊎ CutShort m old new m'
+TriedOn m old new (Err NoBlock) m' = (m.lit ≡ true) × (m.blocks ≡ 0) × Same m m'

@@ -1,7 +1,7 @@
 // Trials of what a power cut leaves, over any disk.
 #![tactic(auto)]
 
-ghost use Rattle.trials.specs.Tried.{Tried};
+ghost use Rattle.trials.specs.Tried.{Tried, TriedOn};
 
 use disk::{Disk, Fault};
 
@@ -15,7 +15,8 @@ pub struct Outcome {
 // Settles block 0 full of `old`, writes it full of `new`, passes a barrier, and restarts the disk. A cut before that barrier is answered as the
 // fault that it was.
 pub fn trial<D: Disk>(disk: &mut D, old: u8, new: u8) -> Result<Outcome, Fault>
-    ensures { Tried (D.Disk.means disk.old) old new result (D.Disk.means disk.new) }
+    ensures tried { Tried old new result }
+    ensures disk { TriedOn (D.Disk.means disk.old) old new result (D.Disk.means disk.new) }
 {
     disk.write(0, &[old; 256])?;
     disk.barrier()?;
