@@ -6,7 +6,7 @@ ghost use Rattle.std.specs.Prelude.{◌≡◌, true};
 
 // The worked examples hold of the definitions.
 pub fn examples_hold() -> bool
-    ensures { (result ≡ true) × (Examples) }
+    ensures { (result ≡ true) × Examples }
 {
     true
 }
@@ -131,7 +131,7 @@ mod tests {
         let Some(name) = Name::new(b"cloth=linen_140") else {
             return Err(Fail::new("refused"));
         };
-        assert!(rt; name.as_bytes() == b"cloth=linen_140");
+        assert!(rt; name.as_bytes() == b"cloth=linen_140".as_slice());
         Ok(())
     }
 }
