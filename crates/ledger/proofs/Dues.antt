@@ -1,5 +1,5 @@
 -- The entry that a granted call writes fits the catalogue.
-use Rattle.std.proofs.Common.{◌≡◌, ℕ, zero, suc, ◌+◌, ◌-◌, ◌^◌, ◌<◌, ◌≤◌, Bool, true, false, ◌||◌, List, [], ◌∷◌, length, get_or, Some, refl, subst, inl, inr, arith}
+use Rattle.std.proofs.Common.{◌≡◌, ℕ, zero, suc, ◌+◌, ◌-◌, ◌^◌, ◌<◌, ◌≤◌, Bool, true, false, ◌||◌, ◌⊎◌, List, [], ◌∷◌, length, get_or, Some, refl, subst, inl, inr, arith}
 use Rattle.std.specs.Str.{bytes_eq}
 use Rattle.std.proofs.lemmas.Bool.{cases_Bool, cases_lt, or_cases, or_left, or_right, or_from, both_ways}
 use Rattle.model.specs.Plain.{Bytes, Generation, Catalogue, Entry, commit, no_generation, unused}
@@ -49,9 +49,19 @@ named_registered n cat q s e =
     let three : at.0 < 3 = omega (arith, at.1.0, s.three) in
     subst (λ (x : Bytes). has_hash x cat.paths ≡ true) (same_is _ q g.1.1) ((s.profiles at.0 three).rising g.0 g.1.0).there
 
+-- A root is named or leased, and what is named or leased is a root.
+pub root_cases : (l : Ledger) (q : Bytes) → root l q ≡ true → (named (catalogue l) q ≡ true) ⊎ (on_lease l q ≡ true)
+root_cases l q e = grind arith
+
+pub root_named : (l : Ledger) (q : Bytes) → named (catalogue l) q ≡ true → root l q ≡ true
+root_named l q e = grind arith
+
+pub root_leased : (l : Ledger) (q : Bytes) → on_lease l q ≡ true → root l q ≡ true
+root_leased l q e = or_right (named (catalogue l) q) (on_lease l q) e
+
 pub root_registered : (l : Ledger) (q : Bytes) → SoundLedger l → root l q ≡ true → has_hash q (paths l) ≡ true
 root_registered l q s e =
-    elim (or_cases (named (catalogue l) q) (on_lease l q) e) [ inl name ↦ named_registered l.n (catalogue l) q s.standing.catalogue name | inr lease ↦ s.leases q lease ]
+    elim (root_cases l q e) [ inl name ↦ named_registered l.n (catalogue l) q s.standing.catalogue name | inr lease ↦ s.leases q lease ]
 
 seal_fits : (l : Ledger) (h : ℕ) (b : Build) (rs : List Bytes) → SoundLedger l → Granted l (Seal h) → building l h ≡ Some b → References l h b rs → Registrable l.n (paths l) (sealed_path b rs)
 seal_fits l h b rs s granted builds refs =
@@ -95,7 +105,7 @@ removal_fits l c h s runs removal =
       there = removal.loose.there;
       unnamed = λ p less. elim (cases_Bool (names_path h (profile (catalogue l) p).generations)) [
         | inl names ↦
-            let rooted : root l h ≡ true = or_left (named (catalogue l) h) (on_lease l h) (named_from (catalogue l) h p less names) in
+            let rooted : root l h ≡ true = root_named l h (named_from (catalogue l) h p less names) in
             absurd (both_ways (has h c.waiting || has h c.marked) (or_from (has h c.waiting) (has h c.marked) idle removal.loose.unmarked) (sound.roots h rooted))
         | inr f ↦ f
       ];

@@ -2,7 +2,7 @@
 use Rattle.std.proofs.Common.{◌≡◌, ℕ, ◌+◌, ◌<◌, ◌≤◌, Bool, true, false, not, ◌||◌, ◌≢◌, ◌⊎◌, List, [], ◌∷◌, ◌++◌, map, length, get_or, set, replicate, Some, None, filter, Option, sym, refl, ap, ◌∙◌, subst, inl, inr, arith}
 use Rattle.std.specs.Str.{bytes_eq}
 use Rattle.std.proofs.lemmas.List.{length-set, length_push, length-append, length-map, get_or_append_left, get_or-append-add, get_or_push, get_or-map}
-use Rattle.std.proofs.lemmas.Bool.{cases_Bool, cases_lt, cases_eq, or_cases, or_left, or_right, or_from, or_parts, both_ways}
+use Rattle.std.proofs.lemmas.Bool.{cases_Bool, cases_lt, cases_eq, or_cases, or_left, or_from, or_parts, both_ways}
 use Rattle.model.specs.Plain.{Bytes, Path, Profile, Catalogue, Entry, register, commit, switch, forget, remove, no_path, Span, blocks, run}
 use Rattle.model.specs.Fits.{has_hash, names_path, profile, with_profile, Whole, Apart, InData, after}
 use Rattle.model.specs.Free.{nowhere}
@@ -18,7 +18,7 @@ use Rattle.ledger.specs.Sound.{SoundCollection, SoundBuild, BuildsApart, SoundSt
 use Rattle.ledger.proofs.Sets.{any_set, has_cases, somes_none_le, somes_end, somes_begin, somes_change, somes_has, somes_place, still_there, there_or_new, none_there, none_unless, some_same}
 use Rattle.ledger.proofs.Names.{lawful_unless}
 use Rattle.ledger.proofs.Collections.{joined_by, collection_fewer, collection_joined, collection_registered, collection_removed, collection_marked}
-use Rattle.ledger.proofs.Dues.{not_below, not_false_is_true, granted_live, due_numbered, due_fits, leased_on_lease, named_from, root_registered}
+use Rattle.ledger.proofs.Dues.{not_below, not_false_is_true, granted_live, due_numbered, due_fits, leased_on_lease, named_from, root_cases, root_named, root_leased, root_registered}
 use Rattle.ledger.proofs.Standings.{contents_with, contents_registered, contents_after, RegistersNone, standing_with, standing_entered, spares_sound}
 
 -- What of a root one more or one less changes.
@@ -72,16 +72,16 @@ commit_named cat p k q x less e =
 
 either_root : (l m : Ledger) (x : Bytes) → (named (catalogue m) x ≡ true → named (catalogue l) x ≡ true) → (on_lease m x ≡ true → on_lease l x ≡ true) → root m x ≡ true → root l x ≡ true
 either_root l m x names leasing e =
-    elim (or_cases (named (catalogue m) x) (on_lease m x) e) [
-      | inl a ↦ or_left (named (catalogue l) x) (on_lease l x) (names a)
-      | inr b ↦ or_right (named (catalogue l) x) (on_lease l x) (leasing b)
+    elim (root_cases m x e) [
+      | inl a ↦ root_named l x (names a)
+      | inr b ↦ root_leased l x (leasing b)
     ]
 
 more_root : (l m : Ledger) (q x : Bytes) → (named (catalogue m) x ≡ true → (named (catalogue l) x ≡ true) ⊎ (q ≡ x)) → (on_lease m x ≡ true → (on_lease l x ≡ true) ⊎ (q ≡ x)) → root m x ≡ true → (root l x ≡ true) ⊎ (q ≡ x)
 more_root l m q x names leasing e =
-    elim (or_cases (named (catalogue m) x) (on_lease m x) e) [
-      | inl a ↦ elim (names a) [ inl old ↦ inl (or_left (named (catalogue l) x) (on_lease l x) old) | inr is ↦ inr is ]
-      | inr b ↦ elim (leasing b) [ inl old ↦ inl (or_right (named (catalogue l) x) (on_lease l x) old) | inr is ↦ inr is ]
+    elim (root_cases m x e) [
+      | inl a ↦ elim (names a) [ inl old ↦ inl (root_named l x old) | inr is ↦ inr is ]
+      | inr b ↦ elim (leasing b) [ inl old ↦ inl (root_leased l x old) | inr is ↦ inr is ]
     ]
 
 keeps_lease : (l : Ledger) (h : ℕ) (q : Bytes) → SoundLedger l → Granted l (Lease h q) → SoundLedger (waits (lease l h q) q)
@@ -356,7 +356,7 @@ keeps_remove l c h s granted runs removal =
       spare = s.spare;
       clean = s.clean;
       holders = s.holders;
-      leases = λ x e. elim (or_cases (has x c.waiting) (has x c.marked) (sound.roots x (or_right (named (catalogue l) x) (on_lease l x) e))) [
+      leases = λ x e. elim (or_cases (has x c.waiting) (has x c.marked) (sound.roots x (root_leased l x e))) [
         | inl w ↦ gone.waiting x w
         | inr m ↦ gone.marked x m
       ];
