@@ -2,7 +2,7 @@
 use Rattle.std.specs.Prelude.{◌≡◌, ℕ, ◌<◌, ◌≤◌, List, [], length, take, Option, MatchOption, slice_index_or}
 use Rattle.naming.specs.Name.{Lawful}
 use Rattle.records.specs.View.{entry_of}
-use Rattle.records.specs.declared.records.Entry.{Entry as Rust-entry}
+use Rattle.records.specs.declared.records.Entry.{Entry as RustEntry}
 use Rattle.model.specs.Plain.{Entry, Path, register, commit, switch, forget, remove}
 use Rattle.card.specs.Fields.{began_with_field, card_size_field, first_number_field, get, half_field, label_mark, mark_field, name_field, name_length_field, read, reference_count_field, reference_field}
 use Rattle.card.specs.Entries.{Says}
@@ -42,5 +42,5 @@ Readable (forget p k) = Unit {0}
 Readable (remove h) = Unit {0}
 
 -- Either the block says the decoded entry, or it says no readable one.
-abbrev pub Decodes : List ℕ → Option Rust-entry → Type 0
+abbrev pub Decodes : List ℕ → Option RustEntry → Type 0
 Decodes block r = MatchOption r ((e : Entry) → Says block e → Readable e → ⊥) (λ e. Says block (entry_of e))

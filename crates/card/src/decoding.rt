@@ -4,7 +4,7 @@ ghost use Rattle.card.specs.Entries.{Says, SaysPath};
 ghost use Rattle.card.specs.Fields.{generation_field, profile_field, read, reference_count_field};
 ghost use Rattle.card.specs.View.{Decodes, ReadablePath, SaysName, SaysReferences};
 ghost use Rattle.model.specs.Fits.{Fits};
-ghost use Rattle.model.specs.Plain.{Path as Plain-path, Entry as Plain-entry, Catalogue as Plain-catalogue};
+ghost use Rattle.model.specs.Plain.{Path as PlainPath, Entry as PlainEntry, Catalogue as PlainCatalogue};
 ghost use Rattle.naming.specs.Name.{Lawful};
 ghost use Rattle.naming.specs.Texts.{name_text};
 ghost use Rattle.records.specs.View.{bytes_of, entry_of, listed, path_of};
@@ -43,7 +43,7 @@ fn decode_references(rest: &[u8]) -> Option<References>
 // The path that an entry registers.
 fn decode_path(rest: &[u8]) -> Option<PathRecord>
     requires { length rest.now ≡ 255 }
-    ensures { (block : List ℕ) → drop 1 block ≡ rest.now → MatchOption result ((p : Plain-path) → SaysPath block p → ReadablePath p → ⊥) (λ path. SaysPath block (path_of path)) }
+    ensures { (block : List ℕ) → drop 1 block ≡ rest.now → MatchOption result ((p : PlainPath) → SaysPath block p → ReadablePath p → ⊥) (λ path. SaysPath block (path_of path)) }
 {
     let name = decode_name(rest)?;
     let refs = decode_references(rest)?;
@@ -102,9 +102,9 @@ fn decode_block(block: &[u8]) -> Option<Entry>
 // The entry that a block says, or none where it is of no kind or registers a path that has no lawful name or over eight references.
 pub fn decode_entry(block: &[u8; 256]) -> Option<Entry>
     ensures cases { Decodes block.now result }
-    ensures unfit { result ≡ None → (e : Plain-entry) → Says block.now e → (n : ℕ) (cat : Plain-catalogue) → Fits n cat e → ⊥ }
+    ensures unfit { result ≡ None → (e : PlainEntry) → Says block.now e → (n : ℕ) (cat : PlainCatalogue) → Fits n cat e → ⊥ }
     ensures back { (e : Entry) → Says block.now (entry_of e) → MatchOption result ⊥ (λ f. entry_of f ≡ entry_of e) }
-    ensures once { (e f : Plain-entry) → Says block.now e → Says block.now f → e ≡ f }
+    ensures once { (e f : PlainEntry) → Says block.now e → Says block.now f → e ≡ f }
 {
     decode_block(block)
 }

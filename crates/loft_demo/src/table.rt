@@ -27,7 +27,7 @@ pub(crate) fn take(rt: &HostRuntime) -> anyhow::Result<Vec<Program>> {
 }
 
 pub(crate) fn tell_sorted(rt: &HostRuntime, programs: &mut Vec<Program>) -> anyhow::Result<()> {
-    programs.sort();
+    programs.sort()?;
     println!(rt; "In hash order:")?;
     for program in programs.as_slice() {
         println!(rt; "  {program}")?;
