@@ -3,7 +3,7 @@ use crate::said::Said;
 use anyhow::anyhow;
 use catalogue::Catalogue;
 use disk::Image;
-use journal::{Place, append, format};
+use journal::{Place, append_and_apply, format_and_clear};
 use std::alloc::Global;
 
 // The blocks of each card.
@@ -107,7 +107,7 @@ impl Card {
         let mut bytes = vec![in heap; 0; BLOCKS as usize * 256]?;
         let mut disk = Image::new(bytes.as_mut_slice());
         let mut catalogue = Catalogue::new(heap, BLOCKS)?;
-        let Ok(mut place) = format(&mut disk, &mut catalogue) else {
+        let Ok(mut place) = format_and_clear(&mut disk, &mut catalogue) else {
             return Err(anyhow!("no card"));
         };
         for k in 0..self.appended() {
@@ -127,7 +127,7 @@ fn enter(
     let Some(entry) = said.entry() else {
         return Err(anyhow!("no entry"));
     };
-    if append(disk, catalogue, place, &entry).is_err() {
+    if append_and_apply(disk, catalogue, place, &entry).is_err() {
         return Err(anyhow!("an entry does not fit"));
     }
     Ok(())

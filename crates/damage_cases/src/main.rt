@@ -16,7 +16,7 @@ use cards::{BLOCKS, Card};
 use catalogue::Catalogue;
 use damage::{Damage, damage_block, forge, set_count};
 use disk::{Disk, Image, write_block};
-use journal::format;
+use journal::format_and_clear;
 use said::Said;
 use std::alloc::Global;
 
@@ -29,7 +29,7 @@ fn empty_card(heap: Global, blocks: u32) -> anyhow::Result<Answer> {
         first_block: 1,
     };
     let mut catalogue = Catalogue::new(heap, blocks)?;
-    let _ = format(&mut Image::new(bytes.as_mut_slice()), &mut catalogue);
+    let _ = format_and_clear(&mut Image::new(bytes.as_mut_slice()), &mut catalogue);
     let _ = write_block(bytes.as_mut_slice(), 0, &encode_label(&label, blocks));
     Ok(loaded_bytes(heap, bytes.as_mut_slice())?)
 }
