@@ -1,6 +1,6 @@
 -- How many steps a collection takes.
 use Rattle.std.proofs.Common.{◌≡◌, ℕ, zero, suc, ◌+◌, ◌<◌, ◌≤◌, Bool, true, false, cond, not, ◌&&◌, ◌||◌, ltb, ◌≢◌, ◌⊎◌, List, [], ◌∷◌, ◌++◌, length, get_or, take, Some, filter, sym, refl, ap, ◌∙◌, subst, inl, inr, add-one, arith}
-use Rattle.std.specs.List.{AllByRecursion as All}
+use Rattle.std.specs.List.{AllByRecursion}
 use Rattle.std.specs.Str.{bytes_eq}
 use Rattle.std.proofs.lemmas.List.{take_all, length-append, length_push}
 use Rattle.std.proofs.lemmas.List.Elements.{filter-append}
@@ -222,7 +222,7 @@ seals_push [] (y ∷ ys) call a same = absurd (omega arith)
 seals_push (x ∷ xs) [] call a same = absurd (omega arith)
 seals_push (x ∷ xs) (y ∷ ys) call a same = let r = seals_push xs ys call a (omega arith) in omega arith
 
-all_push_parts : {A : Type 0} (P : A → Type 0) (xs : List A) (x : A) → All P (xs ++ (x ∷ [])) → All P xs × P x
+all_push_parts : {A : Type 0} (P : A → Type 0) (xs : List A) (x : A) → AllByRecursion P (xs ++ (x ∷ [])) → AllByRecursion P xs × P x
 all_push_parts P [] x each = (tt, each.0)
 all_push_parts P (y ∷ ys) x each = let r = all_push_parts P ys x each.1 in ((each.0, r.0), r.1)
 
@@ -232,7 +232,7 @@ run_even l m calls answers (then {m = k} {calls = before} {answers = said} {call
     length_push before call ∙ (ap (λ i. i + 1) (run_even l k before said run) ∙ sym (length_push said answer))
 
 counted_run : (k m : Ledger) (calls : List Call) (answers : List Answer) (c : Collection) → SoundLedger k → k.collection ≡ Some c
-    → All (λ call. call ≡ Open → ⊥) calls → All (λ answer. answer ≡ Ended → ⊥) answers → Run k calls answers m → Counted m (steps_of answers) (unmarked (paths k) c) (seals_of calls answers)
+    → AllByRecursion (λ call. call ≡ Open → ⊥) calls → AllByRecursion (λ answer. answer ≡ Ended → ⊥) answers → Run k calls answers m → Counted m (steps_of answers) (unmarked (paths k) c) (seals_of calls answers)
 counted_run k m calls answers c s runs no-opens no-ends start = inr (c, (runs, refl))
 counted_run k m calls answers c s runs no-opens no-ends (then {m = j} {calls = before} {answers = said} {call = call} {answer = answer} run step) =
     let opens-parts = all_push_parts (λ x. x ≡ Open → ⊥) before call no-opens in
@@ -252,7 +252,7 @@ unmarked_none : (ps : List Path) (c : Collection) → ((h : Bytes) → has_hash 
 unmarked_none ps c all = kept_none no_path (λ p. not (has p.hash c.marked)) ps (λ i less. not_from_true _ (all (get_or ps i no_path).hash (hash_of_row (get_or ps i no_path).hash ps i less refl)))
 
 pub steps_counted : (l k m z : Ledger) (calls : List Call) (answers : List Answer) → SoundLedger l → Answered l Collect Done k → Run k calls answers m
-    → All (λ call. call ≡ Open → ⊥) calls → All (λ answer. answer ≡ Ended → ⊥) answers → Answered m Step Ended z → steps_of (answers ++ (Ended ∷ [])) ≡ length (paths l) + seals_of calls answers + 1
+    → AllByRecursion (λ call. call ≡ Open → ⊥) calls → AllByRecursion (λ answer. answer ≡ Ended → ⊥) answers → Answered m Step Ended z → steps_of (answers ++ (Ended ∷ [])) ≡ length (paths l) + seals_of calls answers + 1
 steps_counted l k m z calls answers s (collects granted) run no-opens no-ends (ends c live runs all) =
     let first : unmarked (paths l) (record { waiting = roots l; marked = [] }) ≡ length (paths l) = kept_all no_path (λ p. not (has p.hash [])) (paths l) (λ i less. refl) in
     let last : unmarked (paths m) c ≡ 0 = unmarked_none (paths m) c all.marked in

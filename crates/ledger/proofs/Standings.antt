@@ -1,6 +1,6 @@
 -- What an entry leaves for an open to find.
 use Rattle.std.proofs.Common.{◌≡◌, ℕ, ◌+◌, ◌-◌, ◌^◌, ◌<◌, ◌≤◌, true, false, not, List, [], ◌∷◌, ◌++◌, length, get_or, sym, refl, ap, ◌∙◌, subst, inl, inr, arith}
-use Rattle.std.specs.List.{AllByRecursion as All}
+use Rattle.std.specs.List.{AllByRecursion}
 use Rattle.std.specs.Str.{bytes_eq}
 use Rattle.std.proofs.ByRecursion.{All-get_or}
 use Rattle.std.proofs.lemmas.List.{get_or_append_left, get_or_push, length_push}
@@ -93,7 +93,7 @@ module _ (n : ℕ) (s : Standing) where
   spares_sound sealed e numbered before later k d less =
       let fine : Standing → Type 0 = SoundStanding n sealed in
       All-get_or fine (spares s e) k d less (elim (cases_Bool (full s.place)) [
-        | inl is-full ↦ subst (λ (l : List Standing). All (SoundStanding n sealed) l) (sym (cond-true (full s.place) (moved s ∷ (entered s e ∷ [])) (entered s e ∷ []) is-full))
+        | inl is-full ↦ subst (λ (l : List Standing). AllByRecursion (SoundStanding n sealed) l) (sym (cond-true (full s.place) (moved s ∷ (entered s e ∷ [])) (entered s e ∷ []) is-full))
             (standing_moved sealed numbered is-full before, (later, tt))
-        | inr open-half ↦ subst (λ (l : List Standing). All (SoundStanding n sealed) l) (sym (cond-false (full s.place) (moved s ∷ (entered s e ∷ [])) (entered s e ∷ []) open-half)) (later, tt)
+        | inr open-half ↦ subst (λ (l : List Standing). AllByRecursion (SoundStanding n sealed) l) (sym (cond-false (full s.place) (moved s ∷ (entered s e ∷ [])) (entered s e ∷ []) open-half)) (later, tt)
       ])

@@ -1,6 +1,6 @@
 -- What follows from the rules alone, of every run from a fresh card.
 use Rattle.std.specs.Prelude.{◌≡◌, ℕ, ◌+◌, ◌-◌, ◌*◌, min, true, ◌⊎◌, List, [], ◌∷◌, ◌++◌, length, Some, ◌≢◌}
-use Rattle.std.specs.List.{AllByRecursion as All}
+use Rattle.std.specs.List.{AllByRecursion}
 use Rattle.model.specs.Plain.{Bytes, Path, Entry}
 use Rattle.model.specs.Fits.{Makes}
 use Rattle.ledger.specs.declared.refusals.Refusal.TheVariants.{Shut}
@@ -109,7 +109,7 @@ seals_of (call ∷ calls) (a ∷ answers) = seal_count call a + seals_of calls a
 abbrev pub StepsCounted : Type 0
 StepsCounted =
     (n : ℕ) (l k m z : Ledger) (calls : List Call) (answers : List Answer) → Reached n l → Answered l Collect Done k → Run k calls answers m
-    → All (λ call. call ≢ Open) calls → All (λ answer. answer ≢ Ended) answers → Answered m Step Ended z
+    → AllByRecursion (λ call. call ≢ Open) calls → AllByRecursion (λ answer. answer ≢ Ended) answers → Answered m Step Ended z
     → steps_of (answers ++ (Ended ∷ [])) ≡ length (paths l) + seals_of calls answers + 1
 
 -- While a collection runs, a step has an answer.

@@ -1,7 +1,7 @@
 // The newest generation of a profile, and the newest before another: where a rollback leads.
 ghost use Rattle.std.specs.Prelude.{◌≡◌, ◌<◌, ◌≤◌, map, length, MatchOption};
 ghost use Rattle.catalogue.specs.Whole.{catalogue_of};
-ghost use Rattle.model.specs.Fits.{profile as profile-of-number};
+ghost use Rattle.model.specs.Fits.{profile as profile_of_number};
 ghost use Rattle.order.specs.Rows.{HasJust, Holds};
 ghost use Rattle.queries.specs.Newest.{GreatestNumber, Newest, NewestBelow, number_at};
 ghost use Rattle.records.specs.View.{generation_of};
@@ -12,7 +12,7 @@ use records::{ByNumber, Generation};
 
 // The generations of the profile of this number, or none where there is no such profile.
 fn generations_of(catalogue: &Catalogue, profile: u8) -> Option<&[Generation]>
-    ensures { MatchOption result (3 ≤ profile) (λ g. (map generation_of g.now ≡ (profile-of-number (catalogue_of catalogue.now) profile).generations) × (length g.now ≤ 6)) }
+    ensures { MatchOption result (3 ≤ profile) (λ g. (map generation_of g.now ≡ (profile_of_number (catalogue_of catalogue.now) profile).generations) × (length g.now ≤ 6)) }
 {
     let profiles = catalogue.profiles();
     let place = profile as usize;
@@ -48,7 +48,7 @@ fn greatest_number(generations: &[Generation], places: RowSet) -> Option<u32>
 
 // The greatest number of a generation in the profile, or none where it has no generation.
 pub fn newest(catalogue: &Catalogue, profile: u8) -> Option<u32>
-    ensures { Newest (profile-of-number (catalogue_of catalogue.now) profile).generations result }
+    ensures { Newest (profile_of_number (catalogue_of catalogue.now) profile).generations result }
 {
     match generations_of(catalogue, profile) {
         None => None,
@@ -58,7 +58,7 @@ pub fn newest(catalogue: &Catalogue, profile: u8) -> Option<u32>
 
 // The greatest number below `number` of a generation in the profile, or none where no number there is below it.
 pub fn newest_below(catalogue: &Catalogue, profile: u8, number: u32) -> Option<u32>
-    ensures { NewestBelow (profile-of-number (catalogue_of catalogue.now) profile).generations number result }
+    ensures { NewestBelow (profile_of_number (catalogue_of catalogue.now) profile).generations number result }
 {
     match generations_of(catalogue, profile) {
         None => None,

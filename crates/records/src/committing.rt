@@ -17,7 +17,7 @@ pub const MOST_GENERATIONS: usize = 6;
 const MOST_NUMBER: u32 = 999999;
 
 // The place of the greatest of the first 64 generations.
-fn greatest_generation(generations: &[Generation]) -> Option<usize>
+pub(crate) fn greatest_generation(generations: &[Generation]) -> Option<usize>
     ensures { Greatest by_number generations.now (λ k. k < 64) result }
 {
     greatest(&ByNumber, generations, RowSet::below(64))
