@@ -10,7 +10,7 @@ use naming::Hash;
 const MOST_REFERENCES: usize = 8;
 
 impl References {
-    // These hashes, or none where they are more than eight.
+    // These hashes, or none where they are more than eight. The places after the last hash hold zeros.
     pub fn from_slice(hashes: &[Hash]) -> Option<References>
         ensures { MatchOption result (8 < length hashes.now) (λ x. listed x ≡ hashes.now) }
     {

@@ -12,7 +12,7 @@ use Rattle.card.specs.declared.label.Label.{Label}
 use Rattle.recovery.specs.Loads.{Counts, Reads, Ends, Whole}
 use Rattle.journal.specs.View.{start_of, half_with}
 use Rattle.journal.specs.Steps.{CardSized}
-use Rattle.recovery.specs.Loaded.{FreshFor, EntriesRead, LabelRead, Loaded, HalfFound, HalfRead}
+use Rattle.recovery.specs.Loaded.{FreshFor, EntriesRead, LabelRead, Loaded, HalfFound, HalfInto, HalfRead}
 use Rattle.journal.specs.declared.place.Place.{Place}
 use Rattle.recovery.specs.declared.loading.LoadError.{LoadError}
 use Rattle.recovery.specs.declared.loading.LoadError.TheVariants.{Dark, WrongSize, BadLabel, BadEntry}
@@ -79,10 +79,10 @@ module _ (m : Meaning) (p : Place) (l : Label) (c d : Catalogue) (first : p.firs
 
   -- To an entry that does not fit, or not at all.
   pub half_fails : (e : LoadError) → EntriesRead m p c (Err e) d → HalfRead m l c (Err e) d
-  half_fails Dark read sized lit label fresh = both_ways m.lit read lit
-  half_fails WrongSize read sized lit label fresh = omega (arith, sized.0, read)
-  half_fails BadLabel read sized lit label fresh = read
-  half_fails (BadEntry b) read sized lit label fresh =
+  half_fails Dark read sized lit label = both_ways m.lit read lit
+  half_fails WrongSize read sized lit label = omega (arith, sized.0, read)
+  half_fails BadLabel read sized lit label = read
+  half_fails (BadEntry b) read sized lit label = λ fresh.
       let at = read.1 fresh in (
         (
           half_with l.count p,
@@ -119,3 +119,11 @@ label_fails m c n Dark sized same read = (sized, read, refl)
 label_fails m c n WrongSize sized same read = absurd (omega (arith, sized.0, read))
 label_fails m c n BadLabel sized same read = (sized, read.0, λ h labels. read.1 h (subst (λ (k : ℕ). Labels k (m.present 0) h) (sym same) labels), refl)
 label_fails m c n (BadEntry b) sized same read = absurd read
+
+-- Read into a catalogue with nothing in it.
+pub half_found : (m : Meaning) (c : Catalogue) (r : Result Place LoadError) (d : Catalogue) → FreshFor m c → HalfInto m c r d → HalfFound m r d
+half_found m c (Ok p) d fresh into = into fresh
+half_found m c (Err Dark) d fresh into = into
+half_found m c (Err WrongSize) d fresh into = into
+half_found m c (Err BadLabel) d fresh into = into
+half_found m c (Err (BadEntry b)) d fresh into = into fresh

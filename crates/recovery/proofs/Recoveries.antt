@@ -22,7 +22,7 @@ use Rattle.recovery.proofs.Agreements.{whole_once, whole_undamaged}
 use Rattle.journal.proofs.Backing.{backed_smaller}
 
 -- A disk that is found with these contents has a whole journal, with the standing's catalogue and place.
-backed_whole : (n : ℕ) (f : Blocks) (h : Half) (s : Standing) (b : Backed n (alone f) h s) → Whole n f h b.entries s.catalogue
+pub backed_whole : (n : ℕ) (f : Blocks) (h : Half) (s : Standing) (b : Backed n (alone f) h s) → Whole n f h b.entries s.catalogue
 backed_whole n f h s b = record {
   label = b.label (f 0) refl;
   reads = record {

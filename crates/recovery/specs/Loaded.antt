@@ -80,8 +80,16 @@ HalfFound m (Err WrongSize) d = ⊥
 HalfFound m (Err BadLabel) d = ⊥
 HalfFound m (Err (BadEntry b)) d = FoundDamaged m b d × (d.blocks ≡ m.blocks)
 
+-- The half that the label names, read into any catalogue: into one with something in it, all that is said is that the answer is a place or a bad entry.
+abbrev pub HalfInto : Meaning → Catalogue → Result Place LoadError → Catalogue → Type 0
+HalfInto m c (Ok p) d = FreshFor m c → HalfFound m (Ok p) d
+HalfInto m c (Err Dark) d = ⊥
+HalfInto m c (Err WrongSize) d = ⊥
+HalfInto m c (Err BadLabel) d = ⊥
+HalfInto m c (Err (BadEntry b)) d = FreshFor m c → HalfFound m (Err (BadEntry b)) d
+
 abbrev pub HalfRead : Meaning → Label → Catalogue → Result Place LoadError → Catalogue → Type 0
-HalfRead m l c r d = CardSized m → m.lit ≡ true → Labels m.blocks (m.present 0) (half_of l) → FreshFor m c → HalfFound m r d
+HalfRead m l c r d = CardSized m → m.lit ≡ true → Labels m.blocks (m.present 0) (half_of l) → HalfInto m c r d
 
 -- The whole call. Before the label is read, the catalogue stays as it is; then it is emptied, and is that of a card of as many blocks.
 abbrev pub Loaded : Meaning → Catalogue → Result Place LoadError → Catalogue → Type 0
