@@ -25,10 +25,11 @@ pub(crate) fn all_cuts(
 
 // The run on a new card, once with each cut.
 pub(crate) fn single_cuts(heap: Global, run: &Run, cuts: &[Cut]) -> anyhow::Result<Tally> {
+    let made = run.script.made(heap, run.from)?;
     let mut tally = Tally::new();
     for cut in cuts {
         let mut bytes = vec![in heap; 0; BLOCKS * 512]?;
-        tally.count(try_run(heap, bytes.as_mut_slice(), run, *cut)?);
+        tally.count(try_run(heap, bytes.as_mut_slice(), run, &made, *cut)?);
     }
     Ok(tally)
 }
@@ -56,9 +57,10 @@ fn second_cuts(
     cuts: &[Cut],
     tally: &mut Tally,
 ) -> anyhow::Result<()> {
+    let made = run.script.made(heap, run.from)?;
     for cut in cuts {
         let mut bytes = card.to_vec(heap)?;
-        let ending = try_run(heap, bytes.as_mut_slice(), run, *cut)?;
+        let ending = try_run(heap, bytes.as_mut_slice(), run, &made, *cut)?;
         tally.count(ending);
         if matches!(ending, Ending::Uncut) {
             return Ok(());
@@ -75,9 +77,10 @@ fn first_cuts(
     cuts: &CutPairs,
     found: &mut Found,
 ) -> anyhow::Result<()> {
+    let made = run.script.made(heap, run.from)?;
     for cut in cuts.first.as_slice() {
         let mut bytes = card.to_vec(heap)?;
-        let ending = try_run(heap, bytes.as_mut_slice(), run, *cut)?;
+        let ending = try_run(heap, bytes.as_mut_slice(), run, &made, *cut)?;
         let from = match ending {
             Ending::Uncut => return Ok(()),
             Ending::Before(place) => place,
@@ -115,8 +118,15 @@ fn written(heap: Global, script: Script, layer: Layer, count: u32) -> anyhow::Re
         from: 0,
         to: count,
     };
+    let made = script.made(heap, 0)?;
     let mut bytes = vec![in heap; 0; BLOCKS * 512]?;
-    match try_run(heap, bytes.as_mut_slice(), &run, Cut { at: 0, kept: 0 })? {
+    match try_run(
+        heap,
+        bytes.as_mut_slice(),
+        &run,
+        &made,
+        Cut { at: 0, kept: 0 },
+    )? {
         Ending::Uncut => Ok(bytes),
         _ => Err(anyhow!("no card")),
     }

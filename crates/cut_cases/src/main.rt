@@ -6,12 +6,15 @@ mod catalogues;
 mod cutting;
 mod scripts;
 mod tally;
+#[cfg(test)]
+mod tests;
 mod trying;
 
 use anyhow::anyhow;
-use cutting::{CutPairs, all_cuts, pairs_around, single_cuts};
+use cutting::{CutPairs, Found, all_cuts, pairs_around, single_cuts};
 use naming::Name;
 use scripts::{Script, empty_path};
+use std::alloc::Global;
 use trying::{Entries, Layer, Run, Start};
 
 // The numbers by which a restart picks what the card kept of its last writes.
@@ -60,13 +63,18 @@ fn tell_singles(rt: &HostRuntime, script: Script, layer: Layer, on: &str) -> any
     Ok(())
 }
 
-fn tell_pairs(rt: &HostRuntime, changes: &Changes, layer: Layer, on: &str) -> anyhow::Result<()> {
+// What the pairs of cuts around these changes end in.
+fn pairs_of(heap: Global, changes: &Changes, layer: Layer) -> anyhow::Result<Found> {
     let cuts = CutPairs {
-        first: all_cuts(rt.alloc(), OPERATIONS_AROUND, changes.first_kept)?,
-        second: all_cuts(rt.alloc(), OPERATIONS_AROUND, changes.second_kept)?,
+        first: all_cuts(heap, OPERATIONS_AROUND, changes.first_kept)?,
+        second: all_cuts(heap, OPERATIONS_AROUND, changes.second_kept)?,
         then: changes.then,
     };
-    let found = pairs_around(rt.alloc(), changes.script, layer, changes.entries, &cuts)?;
+    pairs_around(heap, changes.script, layer, changes.entries, &cuts)
+}
+
+fn tell_pairs(rt: &HostRuntime, changes: &Changes, layer: Layer, on: &str) -> anyhow::Result<()> {
+    let found = pairs_of(rt.alloc(), changes, layer)?;
     let what = changes.what;
     let first = found.first;
     let second = found.second;
@@ -111,8 +119,7 @@ fn tell_layer(rt: &HostRuntime, name: Name, layer: Layer, on: &str) -> anyhow::R
     );
     tell_singles(rt, again.script, layer, on)?;
     tell_pairs(rt, &again, layer, on)?;
-    tell_pairs(rt, &other, layer, on)?;
-    tell_pairs(rt, &longest_change(name), layer, on)
+    tell_pairs(rt, &other, layer, on)
 }
 
 fn run(rt: &HostRuntime) -> anyhow::Result<()> {
@@ -120,6 +127,12 @@ fn run(rt: &HostRuntime) -> anyhow::Result<()> {
         return Err(anyhow!("no name"));
     };
     tell_layer(rt, name, Layer::Nothing, "on the bench card")?;
+    tell_pairs(
+        rt,
+        &longest_change(name),
+        Layer::Nothing,
+        "on the bench card",
+    )?;
     tell_layer(rt, name, Layer::WriteBehind, "under write-behind")
 }
 

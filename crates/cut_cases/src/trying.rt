@@ -71,23 +71,20 @@ pub(crate) enum Ending {
 
 // Begins a run: makes card and catalogue new, or loads a card that has to hold the catalogue `made`.
 fn begin<D: Disk>(
-    heap: Global,
     disk: &mut D,
     start: Start,
-    made: &mut Catalogue,
-) -> anyhow::Result<Result<Place, Ending>> {
+    made: &Catalogue,
+    catalogue: &mut Catalogue,
+) -> Result<Place, Ending> {
     match start {
-        Start::Format => match format_and_clear(disk, made) {
-            Ok(place) => Ok(Ok(place)),
-            Err(_) => Ok(Err(Ending::InFormat)),
+        Start::Format => match format_and_clear(disk, catalogue) {
+            Ok(place) => Ok(place),
+            Err(_) => Err(Ending::InFormat),
         },
-        Start::Load => {
-            let mut found = Catalogue::new(heap, BLOCKS as u32)?;
-            match load(disk, &mut found) {
-                Ok(place) if is_same(&found, made) => Ok(Ok(place)),
-                _ => Ok(Err(Ending::Neither)),
-            }
-        }
+        Start::Load => match load(disk, catalogue) {
+            Ok(place) if is_same(catalogue, made) => Ok(place),
+            _ => Err(Ending::Neither),
+        },
     }
 }
 
@@ -114,9 +111,14 @@ fn found_after<D: Disk>(
 }
 
 // The run on a disk.
-fn run_on<D: Disk>(heap: Global, disk: &mut D, run: &Run) -> anyhow::Result<Ending> {
-    let mut catalogue = run.script.made(heap, run.from)?;
-    let mut at = match begin(heap, disk, run.start, &mut catalogue)? {
+fn run_on<D: Disk>(
+    heap: Global,
+    disk: &mut D,
+    run: &Run,
+    made: &Catalogue,
+) -> anyhow::Result<Ending> {
+    let mut catalogue = Catalogue::new(heap, BLOCKS as u32)?;
+    let mut at = match begin(disk, run.start, made, &mut catalogue) {
         Ok(at) => at,
         Err(ending) => return Ok(ending),
     };
@@ -133,20 +135,21 @@ fn run_on<D: Disk>(heap: Global, disk: &mut D, run: &Run) -> anyhow::Result<Endi
     Ok(Ending::Uncut)
 }
 
-// The run on a bench card over these bytes, and on a layer over it.
+// The run on a bench card over these bytes, and on a layer over it. The card that it loads, if it does, has to hold the catalogue `made`.
 pub(crate) fn try_run(
     heap: Global,
     bytes: &mut [u8],
     run: &Run,
+    made: &Catalogue,
     cut: Cut,
 ) -> anyhow::Result<Ending> {
     let mut card = BenchCard::new(bytes, cut.at, cut.kept);
     match run.layer {
-        Layer::Nothing => run_on(heap, &mut card, run),
+        Layer::Nothing => run_on(heap, &mut card, run, made),
         Layer::WriteBehind => match WriteBehind::new(heap, card) {
             Ok(layer) => {
                 let mut disk = layer;
-                run_on(heap, &mut disk, run)
+                run_on(heap, &mut disk, run, made)
             }
             Err(_) => Err(anyhow!("no memory")),
         },
