@@ -1,10 +1,14 @@
 -- The order of numbers is the byte order of their digits, written with the highest first in rising characters.
-use Rattle.std.proofs.Common.{◌≡◌, ℕ, zero, suc, ◌+◌, ◌-◌, ◌*◌, ◌/◌, ◌%◌, ◌^◌, ◌<◌, Bool, true, ◌&&◌, ltb, List, [], ◌∷◌, map, length, get_or, Ordering, Less, Equal, Greater, sym, refl, ap, ◌∙◌, subst, ap₂, inl, inr, mod-lt, zero-add, arith}
+use Rattle.std.proofs.Common.{◌≡◌, ℕ, zero, suc, ◌+◌, ◌-◌, ◌*◌, ◌/◌, ◌%◌, ◌^◌, ◌<◌, Bool, true, ◌&&◌, ltb, List, [], ◌∷◌, ◌++◌, map, reverse, length, get_or, Ordering, Less, Equal, Greater, sym, refl, ap, ◌∙◌, subst, ap₂, inl, inr, mod-lt, zero-add, add_comm, mul_comm, arith}
 use native.Mathlib.Nat.{mod-one, pow-succ', pow-zero}
 use lib.Arith.{digits_lt, mod-mul}
+use Rattle.std.specs.Cmp.Lexicographic.{slice_cmp}
 use Rattle.std.specs.List.{range_with_len}
-use Rattle.std.specs.Ordering.{ordering_then}
+use Rattle.std.specs.Ordering.{nat_cmp, ordering_then}
+use Rattle.std.proofs.lemmas.Grind.{reverse_onto}
+use Rattle.std.proofs.lemmas.List.{length-reverse}
 use Rattle.std.proofs.lemmas.Bool.{and_parts, cases_order, eq-eqb, le-ltb, lt-ltb, ltb-true, ne_eqb}
+use Rattle.naming.specs.Digits.{EachBelow, value}
 use Rattle.naming.specs.Hash.{Orders, number_order, text_order}
 use Rattle.naming.proofs.Digits.{pow_pos_of}
 
@@ -78,15 +82,6 @@ order_rising f b up x y lowx lowy =
     (λ same. order_equal (f x) (f y) (ap f same))
     (λ more. order_greater (f x) (f y) (up y x more lowx))
 
-pub rising_apart : (f : ℕ → ℕ) (b : ℕ) → Rises f b → (x y : ℕ) → x < b → y < b → f x ≡ f y → x ≡ y
-rising_apart f b up x y lowx lowy same = elim (cases_order x y) [
-  | inl e ↦ e
-  | inr apart ↦ elim apart [
-    | inl l ↦ absurd (omega (arith, up x y l lowy))
-    | inr g ↦ absurd (omega (arith, up y x g lowx))
-  ]
-]
-
 -- The values of g at m - 1, m - 2 and so on down to 0.
 abbrev downward : (ℕ → ℕ) → ℕ → List ℕ
 downward g zero = []
@@ -119,3 +114,35 @@ order_written f b up pos x y m =
   where
     written : (n : ℕ) → map (λ j. f (n / b ^ (m - 1 - j) % b)) (range_with_len 0 m) ≡ downward (λ k. f (n / b ^ k % b)) m
     written n = ap (λ t. map (λ j. f (n / b ^ (t - 1 - j) % b)) (range_with_len 0 m)) (sym (zero-add m)) ∙ downward_from (λ k. f (n / b ^ k % b)) 0 m
+
+then_level : (o : Ordering) → ordering_then o Equal ≡ o
+then_level Less = refl
+then_level Equal = refl
+then_level Greater = refl
+
+then_then : (o p q : Ordering) → ordering_then o (ordering_then p q) ≡ ordering_then (ordering_then o p) q
+then_then Less p q = refl
+then_then Equal p q = refl
+then_then Greater p q = refl
+
+-- Of lists that are as long, a further element of each decides where all before are level.
+order_last : (xs ys : List ℕ) (x y : ℕ) → length xs ≡ length ys → slice_cmp nat_cmp (xs ++ (x ∷ [])) (ys ++ (y ∷ [])) ≡ ordering_then (slice_cmp nat_cmp xs ys) (nat_cmp x y)
+order_last [] [] x y long = then_level (nat_cmp x y)
+order_last [] (b ∷ ys) x y long = absurd (omega arith)
+order_last (a ∷ xs) [] x y long = absurd (omega arith)
+order_last (a ∷ xs) (b ∷ ys) x y long =
+    ap (ordering_then (nat_cmp a b)) (order_last xs ys x y (omega arith)) ∙ then_then (nat_cmp a b) (slice_cmp nat_cmp xs ys) (nat_cmp x y)
+
+-- The law: as many digits, compared from the highest down, are ordered as the numbers that they write.
+pub order_reversed : (base : ℕ) (xs ys : List ℕ) → length xs ≡ length ys → EachBelow base xs → EachBelow base ys
+    → slice_cmp nat_cmp (reverse xs) (reverse ys) ≡ number_order (value base xs) (value base ys)
+order_reversed base [] [] long lowx lowy = refl
+order_reversed base [] (y ∷ ys) long lowx lowy = absurd (omega arith)
+order_reversed base (x ∷ xs) [] long lowx lowy = absurd (omega arith)
+order_reversed base (x ∷ xs) (y ∷ ys) long lowx lowy =
+    let upper : (d : ℕ) (ds : List ℕ) → value base ds * base + d ≡ value base (d ∷ ds) = λ d ds. add_comm (value base ds * base) d ∙ ap (λ v. d + v) (mul_comm (value base ds) base) in
+    ap₂ (slice_cmp nat_cmp) (reverse_onto xs x []) (reverse_onto ys y [])
+    ∙ order_last (reverse xs) (reverse ys) x y (length-reverse xs ∙ (omega arith ∙ sym (length-reverse ys)))
+    ∙ ap (λ o. ordering_then o (nat_cmp x y)) (order_reversed base xs ys (omega arith) (λ k. lowx (suc k)) (λ k. lowy (suc k)))
+    ∙ order_parts base (value base xs) (value base ys) x y (lowx 0) (lowy 0)
+    ∙ ap₂ number_order (upper x xs) (upper y ys)

@@ -1,16 +1,18 @@
 -- Hash parts: each character, their order, and that each text of 32 digits is the hash part of one hash.
-use Rattle.std.proofs.Common.{◌≡◌, ℕ, ◌+◌, ◌-◌, ◌*◌, ◌/◌, ◌%◌, ◌^◌, ◌<◌, List, [], ◌∷◌, length, get_or, set, Decides, Ordering, Less, Equal, Greater, sym, refl, ap, ◌∙◌, subst, ap₂, mod-lt, mod-eq_of_lt, zero-add, arith, below_more}
-use Rattle.std.specs.Ordering.{is_eq, ordering_then}
+use Rattle.std.proofs.Common.{◌≡◌, ℕ, ◌+◌, ◌-◌, ◌*◌, ◌/◌, ◌%◌, ◌^◌, ◌<◌, List, [], ◌∷◌, reverse, length, get_or, set, Decides, Ordering, Less, Equal, Greater, sym, refl, ap, ◌∙◌, subst, ap₂, mod-lt, mod-eq_of_lt, zero-add, arith, below_more}
+use Rattle.std.specs.Cmp.Lexicographic.{slice_cmp}
+use Rattle.std.specs.Ordering.{is_eq, nat_cmp, ordering_then}
 use Rattle.std.proofs.lemmas.List.FromFn.{fill_by_all, get_or-map-range_with_len, length-map-range_with_len}
 use Rattle.std.proofs.lemmas.List.{ext_get_or, get_or-set_other, get_or-set_same}
 use Rattle.std.proofs.lemmas.Bool.{false≢true}
 use Rattle.naming.specs.Digits.{value}
+use Rattle.naming.specs.Laws.{same_bytes}
 use Rattle.naming.specs.Hash.{Orders, Spelled, alphabet, character, hash_part, number_of, number_order, text_order}
 use Rattle.naming.specs.Order.{HashOrder}
 use Rattle.naming.specs.declared.hash.Hash.{Hash}
-use Rattle.naming.proofs.Digits.{digit_decides, digit_of, digits_value, each_below, pow_mul, same_digits, value_below}
-use Rattle.naming.proofs.Orders.{Rises, order_equal, order_written, ranked, ranked_is, rising}
-use Rattle.naming.proofs.Same.{same_hash}
+use Rattle.naming.proofs.Digits.{digit_of, digits_value, each_below, pow_mul, value_below}
+use Rattle.naming.proofs.Orders.{Rises, order_equal, order_reversed, order_written, ranked, ranked_is, rising}
+use Rattle.naming.specs.Laws.{same_hash}
 
 character_rises : Rises character 32
 character_rises i j less low = rising 0 alphabet refl i j less low
@@ -38,7 +40,7 @@ order_refl [] = refl
 order_refl (x ∷ t) = ap₂ ordering_then (order_equal x x refl) (order_refl t)
 
 pub same_number : (g h : Hash) → number_of g.bytes ≡ number_of h.bytes → g ≡ h
-same_number g h e = same_hash g h (same_digits 256 g.bytes h.bytes (g.whole ∙ sym h.whole) g.small h.small e)
+same_number g h e = same_hash g h (same_bytes g.bytes h.bytes (g.whole ∙ sym h.whole) g.small h.small e)
 
 pub same_part : (g h : Hash) → hash_part g.bytes ≡ hash_part h.bytes → g ≡ h
 same_part g h e =
@@ -60,12 +62,9 @@ hash_order g h o by = record {
     tells Equal level = (λ _. same_number g h level, λ _. refl)
     tells Greater more = (λ e. absurd (false≢true e), λ e. absurd (omega (arith, more, ap (λ x. number_of x.bytes) e)))
 
-pub smaller : (g h : Hash) (i : ℕ) → ((k : ℕ) → i < k → get_or g.bytes k 0 ≡ get_or h.bytes k 0) → get_or g.bytes i 0 < get_or h.bytes i 0
-    → number_of g.bytes < number_of h.bytes
-smaller g h i above less = digit_decides 256 g.bytes h.bytes i (g.whole ∙ sym h.whole) g.small h.small above less
-
-pub level : (g h : Hash) → ((k : ℕ) → get_or g.bytes k 0 ≡ get_or h.bytes k 0) → number_of g.bytes ≡ number_of h.bytes
-level g h each = ap number_of (ext_get_or 0 g.bytes h.bytes (g.whole ∙ sym h.whole) (λ k _. each k))
+-- The law: the bytes from the last to the first are ordered as the hashes.
+pub bytes_order : (g h : Hash) → slice_cmp nat_cmp (reverse g.bytes) (reverse h.bytes) ≡ number_order (number_of g.bytes) (number_of h.bytes)
+bytes_order g h = order_reversed 256 g.bytes h.bytes (g.whole ∙ sym h.whole) g.small h.small
 
 pub spelled : (ds text : List ℕ) → length ds ≡ 32 → length text ≡ 32
     → ((k : ℕ) → k < 32 → (get_or ds k 0 < 32) × (character (get_or ds k 0) ≡ get_or text (31 - k) 0)) → Spelled ds text

@@ -1,4 +1,5 @@
-// Hash parts: from a hash to its text and back.
+// Hash parts: from a hash to its text and back. Texts and bytes are filled place by place: of the elements of `array::from_fn` a proof learns what a
+// call gave, but not that the closure still held the same hash.
 ghost use Rattle.std.specs.Prelude.{◌≡◌, ℕ, ◌<◌, List, Some, MatchOption, ◌≢◌};
 ghost use Rattle.naming.specs.Hash.{Spelled, character, hash_part};
 
@@ -12,12 +13,8 @@ const ALPHABET: [u8; 32] = *b"0123456789abcdfghijklmnpqrsvwxyz";
 fn digit_of(byte: u8) -> Option<u8>
     ensures { MatchOption result ((d : ℕ) → d < 32 → character d ≢ byte) (λ d. (d < 32) × (character d ≡ byte)) }
 {
-    for (digit, character) in ALPHABET.iter().enumerate() {
-        if *character == byte {
-            return Some(digit as u8);
-        }
-    }
-    None
+    let digit = ALPHABET.iter().position(|character| *character == byte)?;
+    Some(digit as u8)
 }
 
 // The digits of a text of 32 characters, the lowest first.
@@ -47,7 +44,7 @@ impl Hash {
         text
     }
 
-    // The hash of a hash part, or none where the text is no hash part.
+    // The hash of a hash part, or none where the text is no hash part. By name: a `TryFrom` would not say that the bytes are a text, and not the hash's own.
     pub fn from_part(text: &[u8]) -> Option<Hash>
         ensures cases { MatchOption result ((h : List ℕ) → hash_part h ≢ text.now) (λ h. hash_part h.bytes ≡ text.now) }
         ensures back { (h : Hash) → hash_part h.bytes ≡ text.now → result ≡ Some h }

@@ -6,11 +6,7 @@ ghost use Rattle.naming.specs.Digits.{EachBelow, value};
 fn digit(digits: &[u8], at: usize) -> u32
     ensures { result ≡ slice_index digits.now at }
 {
-    if at < digits.len() {
-        u32::from(digits[at])
-    } else {
-        0
-    }
+    digits.get(at).map_or(0, |digit| u32::from(*digit))
 }
 
 // The `width` bits from bit `from` on, of digits of `wide` bits each: three neighbouring digits hold them.

@@ -9,15 +9,14 @@ use crate::name::Name;
 fn is_allowed(byte: u8) -> bool
     ensures { result ≡ allowed byte }
 {
-    match char::from(byte) {
-        'a'..='z' | 'A'..='Z' | '0'..='9' => true,
-        '+' | '-' | '.' | '_' | '?' | '=' => true,
-        _ => false,
-    }
+    matches!(
+        char::from(byte),
+        'a'..='z' | 'A'..='Z' | '0'..='9' | '+' | '-' | '.' | '_' | '?' | '='
+    )
 }
 
 impl Name {
-    // The name of that text, or none where the text is no lawful name.
+    // The name of that text, or none where the text is no lawful name. An `Option`, and no `TryFrom`: of a text that is none there is nothing more to say.
     pub fn new(text: &[u8]) -> Option<Name>
         ensures cases { MatchOption result (Lawful text.now → ⊥) (λ n. Lawful text.now × (name_text n ≡ text.now)) }
         ensures back { (n : Name) → name_text n ≡ text.now → result ≡ Some n }
@@ -25,13 +24,11 @@ impl Name {
         if text.is_empty() || text.len() > 24 || text[0] == b'.' {
             return None;
         }
-        let mut bytes = [0; 24];
-        for (place, byte) in text.iter().enumerate() {
-            if !is_allowed(*byte) {
-                return None;
-            }
-            bytes[place] = *byte;
+        if !text.iter().all(|byte| is_allowed(*byte)) {
+            return None;
         }
+        let mut bytes = [0; 24];
+        bytes[..text.len()].copy_from_slice(text);
         Some(Name {
             len: text.len(),
             bytes,

@@ -95,14 +95,12 @@ mod tests {
 
     #[test]
     fn hash_order(rt: HostRuntime) {
-        for place in 1..TABLE.len() {
-            let (bytes, _) = TABLE[place - 1];
-            let low = Hash::new(bytes);
-            let (bytes, _) = TABLE[place];
-            let high = Hash::new(bytes);
-            assert!(rt; low.compare(&high) == Ordering::Less);
-            assert!(rt; low.compare(&low) == Ordering::Equal);
-            assert!(rt; high.compare(&low) == Ordering::Greater);
+        for ((low, _), (high, _)) in TABLE.iter().zip(TABLE.iter().skip(1)) {
+            let low = Hash::new(*low);
+            let high = Hash::new(*high);
+            assert!(rt; low.cmp(&high) == Ordering::Less);
+            assert!(rt; low.cmp(&low) == Ordering::Equal);
+            assert!(rt; high.cmp(&low) == Ordering::Greater);
         }
     }
 
@@ -120,7 +118,7 @@ mod tests {
     fn name_lengths(rt: HostRuntime) {
         let text = [b'a'; 30];
         for length in 0..=30 {
-            assert!(rt; Name::new(&text[0..length]).is_some() == (1 <= length && length <= 24));
+            assert!(rt; Name::new(&text[0..length]).is_some() == (1..=24).contains(&length));
         }
         assert!(rt; Name::new(b".a").is_none());
         assert!(rt; Name::new(b"a.").is_some());
@@ -128,9 +126,7 @@ mod tests {
 
     #[test]
     fn name_text(rt: HostRuntime) -> Result<(), Fail> {
-        let Some(name) = Name::new(b"cloth=linen_140") else {
-            return Err(Fail::new("refused"));
-        };
+        let name = Name::new(b"cloth=linen_140").ok_or("refused")?;
         assert!(rt; name.as_bytes() == b"cloth=linen_140".as_slice());
         Ok(())
     }
