@@ -1,25 +1,21 @@
 -- What the numbers that the code makes hold as sets of rows.
-use Rattle.std.proofs.Common.{◌≡◌, ℕ, zero, suc, ◌+◌, ◌-◌, ◌*◌, ◌/◌, ◌%◌, ◌^◌, ◌<◌, ◌≤◌, eqb, ltb, ◌⊎◌, Decides, sym, refl, ap, ◌∙◌, inl, inr, mul-le-mul_right, mod-lt, mod-eq_of_lt, div-mul-le_self, arith, pow_pos, shr-shr, eq-eqb}
+use Rattle.std.proofs.Common.{◌≡◌, ℕ, zero, suc, ◌+◌, ◌-◌, ◌*◌, ◌/◌, ◌%◌, ◌^◌, ◌<◌, ◌≤◌, ltb, ◌⊎◌, Decides, Option, sym, refl, ap, ◌∙◌, inl, inr, mul-le-mul_right, mod-lt, mod-eq_of_lt, div-mul-le_self, arith, pow_pos, shr-shr}
 use native.Mathlib.Nat.{mod-one}
 use native.Mathlib.Decide.{dec_lt, ℕ_discrete}
 use lib.Bits.{bit_and, bit_or, bit_xor, and_mask, or_shifted, xor_zero_r}
 use lib.Count.{ones, count_trailing_zeros}
 use lib.Pow.{ones_lt, split}
-use Rattle.std.proofs.lemmas.Bool.{eqb-true, ltb-true}
+use Rattle.std.proofs.lemmas.Bool.{le-ltb, lt-ltb, ltb-true}
+use Rattle.std.specs.Bool.{then_some}
 use Rattle.std.proofs.lemmas.Nat.{one_shl}
 use Rattle.order.specs.declared.rows.RowSet.{RowSet}
-use Rattle.order.specs.Rows.{bit, number}
+use Rattle.order.specs.Rows.{Least, bit, number}
 use Rattle.order.proofs.Digits.{bit_cases, bit_below, bit_low, bit_high, bit_next, bit_power, bit_power_other, bit_ones, bit_of_or, bit_of_xor, ones_more, trailing_zero, trailing_one}
 
 abbrev pub Just : ℕ → (ℕ → Type 0) → Type 0
 Just n P = (k : ℕ) → (bit n k ≡ 1 → P k) × (P k → bit n k ≡ 1)
 
 -- ---- tests
-pub tests_bit : (n row : ℕ) → Decides (eqb (bit_and (n / 2 ^ row) 1) 1) (bit n row ≡ 1)
-tests_bit n row =
-    let is : bit_and (n / 2 ^ row) 1 ≡ bit n row = and_mask (n / 2 ^ row) 1 in
-    (λ t. sym is ∙ eqb-true _ _ t, λ one. eq-eqb _ _ (is ∙ one))
-
 pub past_width : (n row : ℕ) → n < 2 ^ 64 → 64 ≤ row → Decides (ltb row 64) (bit n row ≡ 1)
 past_width n row h far =
     (λ t. absurd (omega (arith, ltb-true row 64 t)), λ one. absurd (omega (arith, bit_below n 64 row h one)))
@@ -94,6 +90,14 @@ none_least n h far k one =
     let less = bit_below n 64 k h one in
     let unset = trailing_zero 64 n k (omega arith) in
     omega arith
+
+pub least_told : (s : RowSet) (r : Option ℕ) → s.bits < 2 ^ 64 → r ≡ then_some (ltb (count_trailing_zeros 64 s.bits) 64) (count_trailing_zeros 64 s.bits) → Least s r
+least_told s r h told =
+    let row = count_trailing_zeros 64 s.bits in
+    elim (dec_lt row 64) [
+      | yes p ↦ rw (told, lt-ltb row 64 p) (leasts s.bits p)
+      | no q ↦ rw (told, le-ltb row 64 (omega arith)) (none_least s.bits h (omega arith))
+    ]
 
 -- ---- a row gone, and those above it one down
 bit_mod : (n row k : ℕ) → k < row → bit (n % 2 ^ row) k ≡ bit n k

@@ -1,5 +1,5 @@
 -- What a search for the greatest element answers.
-use Rattle.std.specs.Prelude.{◌≡◌, ℕ, ◌<◌, ◌≤◌, Bool, true, List, length, Some, None, Decides, Option, slice_index_or}
+use Rattle.std.specs.Prelude.{ℕ, ◌<◌, ◌≤◌, List, length, Some, None, Option, slice_index_or}
 use Rattle.std.specs.declared.cmp.Ordering.{Ordering}
 use Rattle.order.specs.Law.{After}
 
@@ -16,8 +16,3 @@ module _ {X : Type 0} (cmp : X → X → Ordering) (xs : List X) (looked : ℕ �
   abbrev pub Greatest : Option ℕ → Type 0
   Greatest None = (k : ℕ) → Seen k → ⊥
   Greatest (Some i) = Top i × ((k : ℕ) → Top k → i ≤ k)
-
--- Whether x comes after the best so far, which it does where there is none.
-abbrev pub Exceeds : {X : Type 0} → (X → X → Ordering) → List X → X → Option ℕ → Bool → Type 0
-Exceeds cmp xs x None r = r ≡ true
-Exceeds {X} cmp xs x (Some b) r = (d : X) → Decides r (After cmp x (slice_index_or xs b d))

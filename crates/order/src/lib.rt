@@ -3,8 +3,8 @@
 
 ghost use Rattle.order.specs.Law.{Lawful};
 ghost use Rattle.order.specs.Rows.{Holds};
-ghost use Rattle.order.specs.Search.{Exceeds, Greatest};
-ghost use Rattle.std.specs.Prelude.{◌≡◌, ◌<◌, length, IfSome};
+ghost use Rattle.order.specs.Search.{Greatest};
+ghost use Rattle.std.specs.Prelude.{◌≡◌};
 ghost use Rattle.std.specs.declared.cmp.Ordering.{Ordering as Standing};
 ghost use Rattle.std.proofs.Common.{rules};
 
@@ -47,29 +47,13 @@ impl<O: Order> Order for Reversed<O> {
 pub fn greatest<O: Order>(order: &O, elements: &[O::Element], places: RowSet) -> Option<usize>
     ensures { Greatest (O.Order.compares order.now) elements.now (Holds places) result }
 {
-    let mut best: Option<usize> = None;
-    for (place, element) in elements.iter().enumerate() {
-        if places.contains(place) && exceeds(order, element, elements, best) {
-            best = Some(place);
-        }
-    }
-    best
-}
-
-// Whether `element` comes after the one at the place `best`; it does where there is no such place.
-fn exceeds<O: Order>(
-    order: &O,
-    element: &O::Element,
-    elements: &[O::Element],
-    best: Option<usize>,
-) -> bool
-    requires { IfSome best (λ b. b < length elements.now) }
-    ensures { Exceeds (O.Order.compares order.now) elements.now element.now best result }
-{
-    match best {
-        None => true,
-        Some(place) => order.compare(element, &elements[place]) == Ordering::Greater,
-    }
+    // The least with the order turned round, since `max_by` answers the last of the greatest, and `min_by` the first of the least.
+    elements
+        .iter()
+        .enumerate()
+        .filter(|(place, _)| places.contains(*place))
+        .min_by(|(_, a), (_, b)| order.compare(b, a))
+        .map(|(place, _)| place)
 }
 
 #[cfg(test)]

@@ -75,7 +75,7 @@ impl RowSet {
         ensures { Least self result }
     {
         let row = self.bits.trailing_zeros() as usize;
-        if row < WIDTH { Some(row) } else { None }
+        (row < WIDTH).then_some(row)
     }
 
     // The set as it is once `row` is gone: rows above it have moved one down.

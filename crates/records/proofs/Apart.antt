@@ -1,5 +1,6 @@
 -- The rules of a registration that look at every other path.
 use Rattle.std.proofs.Common.{◌≡◌, ℕ, ◌+◌, ◌<◌, max, Bool, true, false, not, ◌&&◌, ◌||◌, ltb, List, [], map, length, get_or, Decides, sym, ap, ◌∙◌, inl, inr, arith}
+use Rattle.std.specs.List.{list_all, list_any}
 use Rattle.std.specs.Str.{bytes_eq}
 use Rattle.std.proofs.lemmas.List.{get_or_default}
 use Rattle.std.proofs.lemmas.Bool.{ltb-true, lt-ltb, and_parts, and_from, both_ways, not-true, not_from_false, not-false, cases_Bool}
@@ -10,7 +11,7 @@ use Rattle.naming.specs.declared.hash.Hash.{Hash}
 use Rattle.records.specs.Runs.{meets, ApartFromAll, KnownAll}
 use Rattle.records.specs.declared.records.PathRecord.{PathRecord}
 use Rattle.records.specs.View.{bytes_of, listed, path_of}
-use Rattle.records.proofs.Finds.{unmet_all, any_map}
+use Rattle.records.proofs.Finds.{unmet_all, all_is, any_map, mapped_any}
 
 pub meets_shares : (s t : Span) → meets s t ≡ true → Apart s t → ⊥
 meets_shares s t e apart =
@@ -62,19 +63,20 @@ decides_known p paths =
     (λ h e. not-false (known h) e) (λ h e yes-one. both_ways (known h) (not-true (known h) e) yes-one)
 
 -- What the code's tests decide.
-pub apart_decided : (p : Path) (s : Span) (paths : List PathRecord) (r : Bool) → s ≡ run p → r ≡ any (λ q. meets s (run (path_of q))) paths
+pub apart_decided : (p : Path) (s : Span) (paths : List PathRecord) (r : Bool) → s ≡ run p → r ≡ list_any (λ q. meets s (run (path_of q))) paths
     → Decides (not r) (ApartFromAll (map path_of paths) p)
 apart_decided p s paths r is found =
     let told : r ≡ any (λ q. meets (run p) (run q)) (map path_of paths) =
-    (rw is at found) ∙ sym (any_map path_of (λ q. meets (run p) (run q)) paths) in
+    (rw is at found) ∙ mapped_any path_of (λ q. meets (run p) (run q)) paths in
     rw told (decides_apart p (map path_of paths))
 
 pub known_decided : (p : PathRecord) (paths : List Path) (hashes : List Hash) (r : Bool) → hashes ≡ listed p.refs
-    → r ≡ any (λ h. not (has_hash h.bytes paths || bytes_eq p.hash.bytes h.bytes)) hashes
-    → Decides (not r) (KnownAll paths (path_of p))
+    → r ≡ list_all (λ h. has_hash h.bytes paths || bytes_eq p.hash.bytes h.bytes) hashes
+    → Decides r (KnownAll paths (path_of p))
 known_decided p paths hashes r is found =
-    let told : r ≡ any (λ h. not (has_hash h paths || bytes_eq p.hash.bytes h)) (map bytes_of (listed p.refs)) =
-    (rw is at found) ∙ sym (any_map bytes_of (λ h. not (has_hash h paths || bytes_eq p.hash.bytes h)) (listed p.refs)) in
+    let told : r ≡ not (any (λ h. not (has_hash h paths || bytes_eq p.hash.bytes h)) (map bytes_of (listed p.refs))) =
+    (rw is at found) ∙ all_is (λ h. has_hash h.bytes paths || bytes_eq p.hash.bytes h.bytes) (listed p.refs)
+    ∙ ap not (sym (any_map bytes_of (λ h. not (has_hash h paths || bytes_eq p.hash.bytes h)) (listed p.refs))) in
     rw told (decides_known (path_of p) paths)
 
 pub decides_both : {A B : Type 0} (r : Bool) → A → Decides r B → Decides r (A × B)

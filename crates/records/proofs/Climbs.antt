@@ -1,45 +1,37 @@
 -- Hashes in hash order, pair by pair.
-use Rattle.std.proofs.Common.{◌≡◌, ℕ, ◌+◌, ◌-◌, ◌<◌, ◌≤◌, List, [], map, length, get_or, sym, ap, ◌∙◌, arith}
-use native.Mathlib.Decide.{dec_lt}
+use Rattle.std.proofs.Common.{◌≡◌, ℕ, ◌+◌, ◌<◌, ◌≤◌, Bool, true, false, List, [], map, length, get_or, Decides, sym, ap, ◌∙◌, arith}
+use Rattle.std.specs.List.{IsAllAdjacentAnswer}
+use Rattle.std.specs.Ordering.{is_lt, nat_cmp}
+use Rattle.std.proofs.slice.Orders.{nat_cmp-ltb}
+use Rattle.std.proofs.lemmas.Bool.{ltb-false, ltb-true}
 use Rattle.std.proofs.lemmas.List.{get_or-map, length-map}
 use Rattle.naming.specs.declared.hash.Hash.{Hash}
 use Rattle.naming.specs.Hash.{number_of}
 use Rattle.model.specs.Fits.{Climbing}
 use Rattle.records.specs.View.{bytes_of}
+use Rattle.records.proofs.Finds.{decides_yes, decides_no, some_of}
 
-abbrev number_at : List Hash → ℕ → ℕ
-number_at hs k = number_of (get_or (map bytes_of hs) k [])
+abbrev pub before : Hash → Hash → Bool
+before g h = is_lt (nat_cmp (number_of g.bytes) (number_of h.bytes))
 
--- The pairs below place i rise.
-abbrev pub ClimbsTo : List Hash → ℕ → Type 0
-ClimbsTo hs i = (k : ℕ) → k + 1 < i → k + 1 < length hs → number_at hs k < number_at hs (k + 1)
+module _ (hs : List Hash) where
+  read : (k : ℕ) (d : Hash) → k < length hs → number_of (get_or (map bytes_of hs) k []) ≡ number_of (get_or hs k d).bytes
+  read k d less = ap number_of (get_or-map bytes_of hs k d [] less)
 
-read_number : (hs : List Hash) (k : ℕ) (h : Hash) → k < length hs → h ≡ get_or hs k h → number_at hs k ≡ number_of h.bytes
-read_number hs k h less is = ap number_of (get_or-map bytes_of hs k h [] less ∙ ap bytes_of (sym is))
-
-module _ (hs : List Hash) (i : ℕ) (g h : Hash) (first : 1 ≤ i) (within : i < length hs)
-    (g-is : g ≡ get_or hs (i - 1) g) (h-is : h ≡ get_or hs i h) where
-  pair_is : (number_at hs (i - 1) ≡ number_of g.bytes) × (number_at hs (i - 1 + 1) ≡ number_of h.bytes)
-  pair_is =
-      let back : i - 1 + 1 ≡ i = omega arith in
-      (read_number hs (i - 1) g (omega arith) g-is, ap (number_at hs) back ∙ read_number hs i h within h-is)
-
-  pub climbs_more : number_of g.bytes < number_of h.bytes → ClimbsTo hs i → ClimbsTo hs (i + 1)
-  climbs_more up below k less inside =
-      elim (dec_lt (k + 1) i) [
-        | yes p ↦ below k p inside
-        | no q ↦
-            let here : k ≡ i - 1 = omega arith in
-            let pair = pair_is in
-            rw here (omega (arith, pair.0, pair.1))
-      ]
-
-  pub climbs_not : number_of h.bytes ≤ number_of g.bytes → Climbing (map bytes_of hs) → ⊥
-  climbs_not down all =
-      let pair = pair_is in
+  pub climbing_told : (r : Bool) → IsAllAdjacentAnswer (λ g h b. b ≡ before g h) hs r → Decides r (Climbing (map bytes_of hs))
+  climbing_told true up =
+      decides_yes (λ k less.
       let long = length-map hs bytes_of in
-      let less = all (i - 1) (omega arith) in
-      omega (arith, pair.0, pair.1)
-
-pub climbs_all : (hs : List Hash) (i : ℕ) → length hs ≤ i → ClimbsTo hs i → Climbing (map bytes_of hs)
-climbs_all hs i all h k less = let long = length-map hs bytes_of in h k (omega arith) (omega arith)
+      let d = some_of hs k (omega arith) in
+      let a = number_of (get_or hs k d).bytes in
+      let b = number_of (get_or hs (k + 1) d).bytes in
+      let told : a < b = ltb-true a b (sym (nat_cmp-ltb a b) ∙ sym (up k d (omega arith))) in
+      omega (arith, read k d (omega arith), read (k + 1) d (omega arith)))
+  climbing_told false (k, less, fails) =
+      decides_no (λ all.
+      let long = length-map hs bytes_of in
+      let d = some_of hs k (omega arith) in
+      let a = number_of (get_or hs k d).bytes in
+      let b = number_of (get_or hs (k + 1) d).bytes in
+      let told : b ≤ a = ltb-false a b (sym (nat_cmp-ltb a b) ∙ sym (fails d)) in
+      omega (arith, all k (omega arith), read k d (omega arith), read (k + 1) d (omega arith)))

@@ -1,15 +1,18 @@
 -- Tests over the elements of a list, one by one.
-use Rattle.std.proofs.Common.{◌≡◌, ℕ, suc, ◌<◌, ◌≤◌, Bool, true, false, ◌||◌, List, [], ◌∷◌, map, length, get_or, is_some, Some, None, Decides, Option, refl, ap, ◌∙◌, arith}
-use Rattle.std.specs.Str.{bytes_eq}
-use Rattle.std.proofs.lemmas.Slice.Eq.{bytes_eq-Decides}
+use Rattle.std.proofs.Common.{◌≡◌, ℕ, suc, ◌<◌, ◌≤◌, Bool, true, false, not, ◌&&◌, ◌||◌, List, [], ◌∷◌, map, length, get_or, is_some, Some, None, Decides, Option, sym, refl, ap, ◌∙◌, arith}
 use Rattle.std.proofs.lemmas.List.{get_or-map, length-map}
-use Rattle.std.proofs.lemmas.Bool.Decides.{same_from_decides, Decides-like}
-use Rattle.naming.specs.declared.hash.Hash.{Hash}
-use Rattle.naming.proofs.Same.{same_hash}
-use Rattle.std.proofs.lemmas.Bool.{or_from, false≢true}
+use native.Mathlib.Decide.{dec_lt}
+use Rattle.std.specs.List.{list_all, list_any, position, position_or_len}
+use Rattle.std.proofs.lemmas.List.Sums.{fails_before_first, passes_at_first}
+use Rattle.std.proofs.lemmas.Bool.{or_from, false≢true, le-ltb, lt-ltb}
 use Rattle.model.specs.Fits.{any}
 use Rattle.model.proofs.Chains.{any_from}
 use Rattle.records.specs.Find.{Finds}
+
+-- Some element of a list that has a place.
+pub some_of : {X : Type 0} (xs : List X) (i : ℕ) → i < length xs → X
+some_of [] i less = absurd (omega arith)
+some_of (x ∷ xs) i less = x
 
 module _ {X : Type 0} (test : X → Bool) where
   -- None of the first i elements passes.
@@ -20,6 +23,23 @@ module _ {X : Type 0} (test : X → Bool) where
   unmet_all [] i all h = refl
   unmet_all (x ∷ xs) i all h =
       or_from (test x) (any test xs) (h 0 x (omega arith)) (unmet_all xs (length xs) (omega arith) (λ k d less. h (suc k) d (omega arith)))
+
+  -- What std's `position` and `any` answer.
+  pub finds_position : (xs : List X) (r : Option ℕ) → r ≡ position test xs → Finds test xs r
+  finds_position xs r told =
+      let n = position_or_len test xs in
+      elim (dec_lt n (length xs)) [
+        | yes p ↦ rw (told, lt-ltb n (length xs) p) (p, λ d. passes_at_first test xs d p, λ k d. fails_before_first test xs k d)
+        | no q ↦ rw (told, le-ltb n (length xs) (omega arith)) (unmet_all xs n (omega arith) (λ k d. fails_before_first test xs k d))
+      ]
+
+  pub any_is : (xs : List X) → list_any test xs ≡ any test xs
+  any_is [] = refl
+  any_is (x ∷ xs) = ap (λ (b : Bool). test x || b) (any_is xs)
+
+  pub all_is : (xs : List X) → list_all test xs ≡ not (any (λ x. not (test x)) xs)
+  all_is [] = refl
+  all_is (x ∷ xs) = elim (test x) as (λ b. (b && list_all test xs) ≡ not (not b || any (λ y. not (test y)) xs)) [ true ↦ all_is xs | false ↦ refl ]
 
   pub found_any : (xs : List X) (r : Option ℕ) → Finds test xs r → any test xs ≡ is_some r
   found_any xs None h = h
@@ -40,11 +60,12 @@ finds_map {X} {Y} f test (x ∷ xs) (Some i) h =
       λ k d less. ap test (get_or-map f (x ∷ xs) k x d (omega (arith, h.0))) ∙ h.2 k x less,
     )
 
-pub hash_test : (g h : Hash) (r : Bool) → Decides r (g ≡ h) → r ≡ bytes_eq g.bytes h.bytes
-hash_test g h r told =
-    same_from_decides r (bytes_eq g.bytes h.bytes)
-    (Decides-like r (ap (λ (x : Hash). x.bytes)) (same_hash g h) told)
-    (bytes_eq-Decides g.bytes h.bytes)
+-- The same, of a list of which the code has the elements before they are read.
+pub mapped_finds : {X Y : Type 0} (f : X → Y) (test : Y → Bool) (xs : List X) (r : Option ℕ) → r ≡ position (λ x. test (f x)) xs → Finds test (map f xs) r
+mapped_finds f test xs r told = finds_map f test xs r (finds_position (λ x. test (f x)) xs r told)
+
+pub mapped_any : {X Y : Type 0} (f : X → Y) (test : Y → Bool) (xs : List X) → list_any (λ x. test (f x)) xs ≡ any test (map f xs)
+mapped_any f test xs = any_is (λ x. test (f x)) xs ∙ sym (any_map f test xs)
 
 pub decides_yes : {P : Type 0} → P → Decides true P
 decides_yes p = (λ _. p, λ _. refl)

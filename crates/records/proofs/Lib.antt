@@ -2,7 +2,7 @@
 pub mod Apart
 mod Climbs
 mod Commits
-mod Copies
+pub mod Places
 pub mod Finds
 mod Needs
 mod Registers

@@ -3,7 +3,8 @@
 #![tactic(auto)]
 
 mod committing;
-mod finding;
+mod exact;
+mod full;
 mod listed;
 mod lookups;
 mod orders;
@@ -14,10 +15,10 @@ mod registering;
 mod runs;
 
 pub use committing::{MOST_GENERATIONS, is_committable};
-pub use finding::{Test, find, is_any};
+pub use full::Full;
 pub use lookups::{is_named, is_registered, is_unneeded, place_of, row_of};
 pub use orders::{ByHash, ByNumber};
-pub use placing::{DATA, Meeting};
+pub use placing::DATA;
 pub use records::{Entry, Generation, PathRecord};
 pub use references::References;
 pub use registering::{MOST_PATHS, is_registrable};

@@ -26,7 +26,7 @@ impl Order for ByHash {
         (λ a b. part_order a.hash b.hash) (lawful_by nat_cmp_total (λ (p : PathRecord). number_of p.hash.bytes)) };
 
     fn compare(&self, a: &PathRecord, b: &PathRecord) -> Ordering {
-        a.hash.compare(&b.hash)
+        a.hash.cmp(&b.hash)
     }
 }
 

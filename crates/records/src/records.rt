@@ -3,7 +3,7 @@ use crate::references::References;
 use naming::{Hash, Name};
 
 // A registered path: its hash and name, the length of its content in bytes, the first block of its run, and what it refers to.
-#[derive(Clone, Copy)]
+#[derive(Clone, Copy, PartialEq, Eq, Debug)]
 pub struct PathRecord {
     pub hash: Hash,
     pub name: Name,
@@ -13,14 +13,14 @@ pub struct PathRecord {
 }
 
 // A generation of a profile: its number, and the hash of the path that it names.
-#[derive(Clone, Copy)]
+#[derive(Clone, Copy, PartialEq, Eq, Debug)]
 pub struct Generation {
     pub number: u32,
     pub hash: Hash,
 }
 
 // What one entry of the journal says.
-#[derive(Clone, Copy)]
+#[derive(Clone, Copy, PartialEq, Eq, Debug)]
 pub enum Entry {
     Register(PathRecord),
     Commit {

@@ -1,30 +1,19 @@
-use Rattle.std.proofs.Common.{◌<◌, length, refl, arith}
-use Rattle.std.proofs.lemmas.Bool.Decides.{not_from_Decides}
-use Rattle.order.specs.Rows.{Holds}
-use Rattle.order.proofs.Bests.{so_far_passes, so_far_takes, so_far_stays}
+use Rattle.std.proofs.Common.{ℕ, Bool, eqb, Decides, rules, tests}
+use Rattle.std.specs.Cmp.{unsigned_Decides}
+use Rattle.std.proofs.lemmas.Iterator.{YieldsList-from_slice}
+use Rattle.std.proofs.lemmas.Iterator.Consumers.{YieldsList-from_enumerate, YieldsList-from_filter}
+use Rattle.order.specs.Rows.{Holds, bit}
+use Rattle.order.proofs.Bests.{greatest_picked, mapped}
 use Rattle.order.proofs.greatest.Goals as goal
-use Rattle.order.proofs.greatest.Goals.{then-contains+then-exceeds, else-contains, else-contains-via-then-contains+else-exceeds, else-contains-via-else-contains}
 
-pub loop-place-preserved : goal.loop-place-preserved
-loop-place-preserved g c =
+pub returns : goal.returns
+returns g c =
     let cmp = g.O.Order.compares c.args.order.now in
     let law = g.met.O.Order.lawful c.args.order.now in
     let xs = c.args.elements.now in
     let held = Holds c.args.places in
-    let i = c.loop-place.place in
-    let best = c.loop-place.best in
-    let x = c.index-elements-place.result in
-    let inside : i < length xs = omega arith in
-    elim c.if-contains.branch [
-      | then-contains+then-exceeds w ↦
-          rw w.best-is
-          (so_far_takes cmp law xs held i x inside c.index-elements-place.is best (w.if-contains.ensures.test.0 refl) c.loop-place.invariant w.if-exceeds.ensures)
-      | else-contains w ↦
-          rw w.best-is
-          (elim w.else-contains.branch [
-            | else-contains-via-then-contains+else-exceeds v ↦
-                so_far_stays cmp law xs held i x inside c.index-elements-place.is best c.loop-place.invariant v.if-exceeds.ensures
-            | else-contains-via-else-contains v ↦
-                so_far_passes cmp law xs held i best (not_from_Decides c.contains.result c.contains.ensures.test v.if-contains.false) c.loop-place.invariant
-          ])
-    ]
+    let test : ℕ → Bool = λ k. eqb (bit c.args.places.bits k) 1 in
+    let tells : (k : ℕ) → Decides (test k) (held k) = λ k. unsigned_Decides (bit c.args.places.bits k) 1 in
+    rw (mapped (λ p. p.0) c.min_by.result c.map.result _ c.map.ensures.cases (λ x told. search (rules, tests)))
+    (greatest_picked cmp law xs held test tells _ _ _ _ (λ p z o q k. search (rules, tests)) c.min_by.result c.min_by.ensures.ran
+    (YieldsList-from_filter _ (λ q. test q.0) (YieldsList-from_enumerate (YieldsList-from_slice xs cc) cc) c.filter.ensures.closure (λ x r q k. search (rules, tests))))

@@ -1,10 +1,10 @@
-use Rattle.records.proofs.Commits.{above_greatest, above_none}
-use Rattle.records.proofs.Finds.{decides_yes}
+use Rattle.std.proofs.Common.{ltb, rules, tests}
+use Rattle.std.proofs.lemmas.Iterator.{YieldsList-from_slice}
+use Rattle.std.proofs.lemmas.Iterator.Search.{all_from_yields_List}
+use Rattle.records.proofs.Commits.{above_decided}
 use Rattle.records.proofs.committing.is_above.Goals as goal
 
-pub returns-in-None : goal.returns-in-None
-returns-in-None c = decides_yes (above_none c.args.generations.now c.requires c.args.number c.in-None.ensures)
-
-pub returns-in-Some : goal.returns-in-Some
-returns-in-Some c =
-    above_greatest c.args.generations.now c.requires c.in-Some.place c.args.number c.index-generations-place.result c.in-Some.ensures
+pub returns : goal.returns
+returns c =
+    above_decided c.args.generations.now c.args.number c.all.result
+    (all_from_yields_List (λ g. ltb g.number c.args.number) _ _ c.all.result c.all.ensures.ran (YieldsList-from_slice c.args.generations.now cc) (λ x b q k. search (rules, tests)))

@@ -1,5 +1,6 @@
-use Rattle.order.proofs.Sets.{leasts}
+use Rattle.std.proofs.Common.{arith}
+use Rattle.order.proofs.Sets.{least_told}
 use Rattle.order.proofs.rows.RowSet.first.Goals as goal
 
-pub returns-then-row-lt-WIDTH : goal.returns-then-row-lt-WIDTH
-returns-then-row-lt-WIDTH c = leasts c.args.self.bits c.if-row-lt-WIDTH.true
+pub returns : goal.returns
+returns c = least_told c.args.self c.then_some.result (omega arith) c.then_some.ensures

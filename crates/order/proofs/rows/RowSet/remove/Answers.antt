@@ -2,9 +2,6 @@ use Rattle.std.proofs.Common.{refl}
 use Rattle.order.proofs.Sets.{drops}
 use Rattle.order.proofs.rows.RowSet.remove.Goals as goal
 
-pub overflow_shl-self : goal.overflow_shl-self
-overflow_shl-self c = c.if-contains.ensures.within c.args.row (c.if-contains.ensures.test.0 refl)
-
 pub returns-then-contains : goal.returns-then-contains
 returns-then-contains c =
     let there = c.if-contains.ensures.test.0 refl in
