@@ -68,32 +68,32 @@ module _ (paths : List PathRecord) (profiles : List Profile) where
       let to : List plain.Path → plain.Catalogue = λ ps. record { paths = ps; profiles = map profile_of profiles } in ap to (gone single)
 
 -- The same, of a catalogue that the entry fits.
-module _ (cat : Catalogue) (p : ℕ) (f x : Profile) (at : x ≡ get_or (vec_items cat.profiles) p x) where
+module _ (cat : Catalogue) (p : ℕ) (f x : Profile) (at : x ≡ get_or cat.profiles p x) where
   abbrev pub SetTo : plain.Entry → Type 0
-  SetTo e = catalogue_from (vec_items cat.paths) (set (vec_items cat.profiles) p f) ≡ after (catalogue_of cat) e
+  SetTo e = catalogue_from (vec_items cat.paths) (set cat.profiles p f) ≡ after (catalogue_of cat) e
 
   -- The invariant of the catalogue with the profile in place.
   pub still_whole : (e : plain.Entry) → Fits cat.blocks (catalogue_of cat) e → SetTo e
-      → (length (set (vec_items cat.profiles) p f) ≡ 3) × ∥ Sound cat.blocks (catalogue_from (vec_items cat.paths) (set (vec_items cat.profiles) p f)) ∥₁
+      → (length (set cat.profiles p f) ≡ 3) × ∥ Sound cat.blocks (catalogue_from (vec_items cat.paths) (set cat.profiles p f)) ∥₁
   still_whole e fits is =
-      (length-set (vec_items cat.profiles) p f ∙ cat.three, sound_kept cat.blocks (catalogue_of cat) e _ cat.sound fits is)
+      (length-set cat.profiles p f ∙ cat.three, sound_kept cat.blocks (catalogue_of cat) e _ cat.sound fits is)
 
-  there : p < 3 → p < length (vec_items cat.profiles)
+  there : p < 3 → p < length cat.profiles
   there less = omega (arith, cat.three)
 
   pub switched : (k : ℕ) → Fits cat.blocks (catalogue_of cat) (plain.switch p k)
       → profile_of f ≡ profile_from (profile_of x).generations k → SetTo (plain.switch p k)
-  switched k fits is = view_switched (vec_items cat.paths) (vec_items cat.profiles) p f x (there fits.0) at k is
+  switched k fits is = view_switched (vec_items cat.paths) cat.profiles p f x (there fits.0) at k is
 
   pub committed : (k : ℕ) (h : List ℕ) → Fits cat.blocks (catalogue_of cat) (plain.commit p k h)
       → profile_of f ≡ profile_from ((profile_of x).generations ++ (record { number = k; path = h } ∷ [])) k → SetTo (plain.commit p k h)
-  committed k h fits is = view_committed (vec_items cat.paths) (vec_items cat.profiles) p f x (there fits.0) at k h is
+  committed k h fits is = view_committed (vec_items cat.paths) cat.profiles p f x (there fits.0) at k h is
 
   pub forgotten : (k : ℕ) → Fits cat.blocks (catalogue_of cat) (plain.forget p k)
       → Taken (λ g. eqb g.number k) plain.no_generation (profile_of x).generations (profile_of f).generations
       → f.current ≡ x.current → SetTo (plain.forget p k)
   forgotten k fits gone same =
-      view_forgotten (vec_items cat.paths) (vec_items cat.profiles) p f x (there fits.0) at k
+      view_forgotten (vec_items cat.paths) cat.profiles p f x (there fits.0) at k
       (single_number cat.blocks (catalogue_of cat) cat.sound p k fits.0) gone same
 
   -- There is room for one more generation.
@@ -101,7 +101,7 @@ module _ (cat : Catalogue) (p : ℕ) (f x : Profile) (at : x ≡ get_or (vec_ite
       → vec_len x.generations < 6
   has_room k h fits =
       let gens = x.generations in
-      let here = ap profile_of at ∙ view_at (vec_items cat.paths) (vec_items cat.profiles) p x (there fits.0) in
+      let here = ap profile_of at ∙ view_at (vec_items cat.paths) cat.profiles p x (there fits.0) in
       let long = length-map (vec_items gens) generation_of in
       let same = ap (λ q. length q.generations) here in
       omega (arith, gens.ok.0, fits.1.room)
@@ -109,10 +109,10 @@ module _ (cat : Catalogue) (p : ℕ) (f x : Profile) (at : x ≡ get_or (vec_ite
 -- The same, where the paths change.
 module _ (cat : Catalogue) (paths : Vec PathRecord Global) where
   abbrev pub PathsTo : plain.Entry → Type 0
-  PathsTo e = catalogue_from (vec_items paths) (vec_items cat.profiles) ≡ after (catalogue_of cat) e
+  PathsTo e = catalogue_from (vec_items paths) cat.profiles ≡ after (catalogue_of cat) e
 
   pub whole_paths : (e : plain.Entry) → Fits cat.blocks (catalogue_of cat) e → PathsTo e → vec_capacity paths ≡ vec_capacity cat.paths
-      → (40 ≤ vec_capacity paths) × (length (vec_items cat.profiles) ≡ 3) × ∥ Sound cat.blocks (catalogue_from (vec_items paths) (vec_items cat.profiles)) ∥₁
+      → (40 ≤ vec_capacity paths) × (length cat.profiles ≡ 3) × ∥ Sound cat.blocks (catalogue_from (vec_items paths) cat.profiles) ∥₁
   whole_paths e fits is cap =
       (omega (arith, cat.room), cat.three, sound_kept cat.blocks (catalogue_of cat) e _ cat.sound fits is)
 
@@ -123,9 +123,9 @@ path_room cat p fits =
 
 pub removed_at : (cat : Catalogue) (h : List ℕ) (slice left : List PathRecord) (i : ℕ) → slice ≡ vec_items cat.paths
     → RowOf (map path_of slice) h (Some i) → left ≡ remove (vec_items cat.paths) i
-    → catalogue_from left (vec_items cat.profiles) ≡ after (catalogue_of cat) (plain.remove h)
+    → catalogue_from left cat.profiles ≡ after (catalogue_of cat) (plain.remove h)
 removed_at cat h slice left i lent found is =
-    view_removed (vec_items cat.paths) (vec_items cat.profiles) h left (single_hash cat.blocks (catalogue_of cat) cat.sound h)
+    view_removed (vec_items cat.paths) cat.profiles h left (single_hash cat.blocks (catalogue_of cat) cat.sound h)
     (taken_view path_of (λ q. bytes_eq q.hash h) plain.no_path slice (vec_items cat.paths) lent left i found is)
 
 -- A catalogue with nothing in it.

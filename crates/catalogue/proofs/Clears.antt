@@ -1,8 +1,6 @@
 -- Profiles emptied one after the other.
-use Rattle.std.proofs.Common.{◌≡◌, ℕ, ◌+◌, ◌<◌, ◌≤◌, List, [], ◌∷◌, ◌++◌, map, length, take, set, replicate, vec_items, Vec, sym, ap, ◌∙◌, ap₂}
-use Rattle.std.specs.Vec.{with_items}
-use Rattle.std.specs.declared.alloc.Global.{Global}
-use Rattle.std.proofs.lemmas.List.{map_push, with_items_is, replicate_more, take_all, take_more_set}
+use Rattle.std.proofs.Common.{◌≡◌, ℕ, ◌+◌, ◌<◌, ◌≤◌, List, [], ◌∷◌, ◌++◌, map, length, take, set, replicate, sym, ap, ◌∙◌, ap₂}
+use Rattle.std.proofs.lemmas.List.{map_push, replicate_more, take_all, take_more_set}
 use Rattle.model.specs.Plain as plain
 use Rattle.catalogue.specs.declared.profile.Profile.{Profile}
 use Rattle.catalogue.specs.View.{profile_of}
@@ -19,8 +17,3 @@ module _ (fs : List Profile) (i : ℕ) where
   pub cleared_all : length fs ≤ i → i ≡ 3 → map profile_of (take i fs) ≡ replicate i plain.unused → map profile_of fs ≡ (plain.nothing).profiles
   cleared_all end three so_far =
       ap (map profile_of) (sym (take_all i fs end)) ∙ so_far ∙ ap (λ n. replicate n plain.unused) three
-
--- The same of the profiles as their slice is lent back.
-pub emptied : (v : Vec Profile Global) (fs : List Profile) → length fs ≡ v.len → map profile_of fs ≡ (plain.nothing).profiles
-    → map profile_of (vec_items (with_items v fs)) ≡ (plain.nothing).profiles
-emptied v fs long empty = ap (map profile_of) (with_items_is v fs long) ∙ empty

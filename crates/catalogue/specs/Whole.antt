@@ -6,7 +6,7 @@ use Rattle.catalogue.specs.View.{catalogue_from}
 use Rattle.catalogue.specs.declared.catalogues.Catalogue.{Catalogue}
 
 abbrev pub catalogue_of : Catalogue → plain.Catalogue
-catalogue_of c = catalogue_from (vec_items c.paths) (vec_items c.profiles)
+catalogue_of c = catalogue_from (vec_items c.paths) c.profiles
 
 -- The catalogue c became what the entry makes of it.
 abbrev pub Becomes : Catalogue → plain.Entry → Catalogue → Type 0

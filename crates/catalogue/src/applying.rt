@@ -1,4 +1,4 @@
-// What entries make of the catalogue.
+// What entries make of the catalogue. Profile and number stay two parameters: they are two fields of an entry, in the code and in the definitions.
 ghost use Rattle.catalogue.specs.Applied.{Applied};
 ghost use Rattle.catalogue.specs.Whole.{Becomes, catalogue_of};
 ghost use Rattle.model.specs.Fits.{Fits};
@@ -9,6 +9,8 @@ ghost use Rattle.std.specs.Prelude.{◌≡◌};
 use crate::catalogues::Catalogue;
 use naming::Hash;
 use records::{Entry, Generation, PathRecord, row_of};
+use std::error::Error;
+use std::fmt;
 
 impl Catalogue {
     fn register(&mut self, path: &PathRecord)
@@ -53,8 +55,21 @@ impl Catalogue {
 }
 
 // The entry does not fit the catalogue.
-#[derive(Clone, Copy, Debug)]
+#[derive(Clone, Copy, PartialEq, Eq, Debug)]
 pub struct Unfit;
+
+impl fmt::Display for Unfit {
+    ghost use Rattle.catalogue.specs.Applied.{unfit_text};
+    ghost use Rattle.std.specs.Prelude.{Some};
+
+    ghost output = { λ _. Some unfit_text };
+
+    fn fmt<W: fmt::Write>(&self, f: &mut fmt::Formatter<W>) -> fmt::Result {
+        f.write_str("the entry does not fit the catalogue")
+    }
+}
+
+impl Error for Unfit {}
 
 impl Catalogue {
     // Makes of the catalogue what the entry says, if it fits; else the catalogue stays as it is.

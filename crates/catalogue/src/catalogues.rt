@@ -7,12 +7,12 @@ use crate::profile::Profile;
 use records::PathRecord;
 
 // What a card of `blocks` blocks holds: the paths in registration order, and the profiles.
-#[derive(Drop)]
+#[derive(PartialEq, Eq, Debug, Drop)]
 pub struct Catalogue {
     pub(crate) blocks: u32,
     pub(crate) paths: Vec<PathRecord>,
-    pub(crate) profiles: Vec<Profile>,
+    pub(crate) profiles: [Profile; 3],
     ghost room: { 40 ≤ vec_capacity paths },
-    ghost three: { length profiles.items ≡ 3 },
-    ghost sound: { ∥ Sound blocks (catalogue_from paths.items profiles.items) ∥₁ },
+    ghost three: { length profiles ≡ 3 },
+    ghost sound: { ∥ Sound blocks (catalogue_from paths.items profiles) ∥₁ },
 }

@@ -1,5 +1,5 @@
 // Which entry fits the catalogue.
-ghost use Rattle.std.specs.Prelude.{◌≡◌, ◌<◌, ◌≤◌, map, length, Decides, MatchOption, slice_index_or};
+ghost use Rattle.std.specs.Prelude.{◌≡◌, Decides};
 ghost use Rattle.catalogue.specs.View.{profile_of};
 ghost use Rattle.catalogue.specs.Whole.{catalogue_of};
 ghost use Rattle.model.specs.Fits.{Fits, has_number};
@@ -11,21 +11,6 @@ use crate::profile::Profile;
 use crate::removing::is_removable;
 use naming::Hash;
 use records::{Entry, is_committable, is_registrable, place_of};
-
-// The number of profiles.
-pub(crate) const PROFILES: u8 = 3;
-
-// The profile of this number.
-fn profile_at(profiles: &[Profile], profile: u8) -> Option<&Profile>
-    requires { length profiles.now ≡ 3 }
-    ensures { MatchOption result (3 ≤ profile) (λ f. (profile < 3) × (profile_of f.now ≡ slice_index_or (map profile_of profiles.now) profile plain.unused)) }
-{
-    if profile < PROFILES {
-        Some(&profiles[profile as usize])
-    } else {
-        None
-    }
-}
 
 // Whether a generation of this number is in the profile.
 fn has_generation(profile: &Profile, number: u32) -> bool
@@ -40,30 +25,25 @@ impl Catalogue {
         ensures { Decides result (Fits self.now.blocks (catalogue_of self.now) (plain.commit profile number hash.now.bytes)) }
     {
         let paths = self.paths.as_slice();
-        match profile_at(self.profiles.as_slice(), profile) {
-            None => false,
-            Some(found) => is_committable(paths, found.generations.as_slice(), number, hash),
-        }
+        self.profile(profile).is_some_and(|found| {
+            is_committable(paths, found.generations.as_slice(), number, hash)
+        })
     }
 
     // Whether a switch fits.
     fn switch_fits(&self, profile: u8, number: u32) -> bool
         ensures { Decides result (Fits self.now.blocks (catalogue_of self.now) (plain.switch profile number)) }
     {
-        match profile_at(self.profiles.as_slice(), profile) {
-            None => false,
-            Some(found) => has_generation(found, number),
-        }
+        self.profile(profile)
+            .is_some_and(|found| has_generation(found, number))
     }
 
     // Whether a forget fits.
     fn forget_fits(&self, profile: u8, number: u32) -> bool
         ensures { Decides result (Fits self.now.blocks (catalogue_of self.now) (plain.forget profile number)) }
     {
-        match profile_at(self.profiles.as_slice(), profile) {
-            None => false,
-            Some(found) => has_generation(found, number) && found.current != number,
-        }
+        self.profile(profile).is_some_and(|found| has_generation(found, number)
+            && found.current != number)
     }
 
     // Whether the entry fits.
@@ -80,7 +60,7 @@ impl Catalogue {
             } => self.commit_fits(*profile, *number, hash),
             Entry::Switch { profile, number } => self.switch_fits(*profile, *number),
             Entry::Forget { profile, number } => self.forget_fits(*profile, *number),
-            Entry::Remove(hash) => is_removable(paths, self.profiles.as_slice(), hash),
+            Entry::Remove(hash) => is_removable(paths, &self.profiles, hash),
         }
     }
 }

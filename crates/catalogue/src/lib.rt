@@ -13,6 +13,4 @@ mod removing;
 pub use applying::Unfit;
 pub use catalogues::Catalogue;
 pub use profile::Profile;
-pub use records::{
-    ByHash, ByNumber, Entry, Generation, Meeting, PathRecord, References, Run, Test, find, is_any,
-};
+pub use records::{ByHash, ByNumber, Entry, Full, Generation, PathRecord, References, Run};

@@ -10,25 +10,21 @@ use records::MOST_PATHS;
 use std::alloc::{AllocError, Global};
 
 // Three profiles without generations.
-fn unused_profiles(heap: Global) -> Result<Vec<Profile>, AllocError>
-    ensures { IfOk result (λ v. map profile_of v.items ≡ nothing.profiles) }
+fn unused_profiles(heap: Global) -> Result<[Profile; 3], AllocError>
+    ensures { IfOk result (λ fs. map profile_of fs ≡ nothing.profiles) }
 {
-    let first = Profile::new(heap)?;
-    let second = Profile::new(heap)?;
-    let third = Profile::new(heap)?;
-    let mut profiles = Vec::with_capacity(heap, 3)?;
-    profiles.push_reserved(first);
-    profiles.push_reserved(second);
-    profiles.push_reserved(third);
-    Ok(profiles)
+    Ok([
+        Profile::new(heap)?,
+        Profile::new(heap)?,
+        Profile::new(heap)?,
+    ])
 }
 
 // Takes all generations out of three profiles.
-fn clear_profiles(profiles: &mut [Profile])
-    requires { length profiles.old ≡ 3 }
+fn clear_profiles(profiles: &mut [Profile; 3])
     ensures { map profile_of profiles.new ≡ nothing.profiles }
 {
-    for profile in profiles.iter_mut() {
+    for profile in profiles {
         profile.clear();
     }
 }
@@ -53,6 +49,6 @@ impl Catalogue {
     {
         self.blocks = blocks;
         self.paths.clear();
-        clear_profiles(self.profiles.as_mut_slice());
+        clear_profiles(&mut self.profiles);
     }
 }

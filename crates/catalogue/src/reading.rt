@@ -1,7 +1,9 @@
 // What can be read of a catalogue and of its profiles.
+ghost use Rattle.catalogue.specs.View.{profile_of};
 ghost use Rattle.catalogue.specs.Whole.{catalogue_of};
+ghost use Rattle.model.specs.Fits.{profile};
 ghost use Rattle.records.specs.Find.{RowOf};
-ghost use Rattle.std.specs.Prelude.{◌≡◌};
+ghost use Rattle.std.specs.Prelude.{◌≡◌, ◌<◌, ◌≤◌, MatchOption};
 
 use crate::catalogues::Catalogue;
 use crate::profile::Profile;
@@ -32,9 +34,16 @@ impl Catalogue {
 
     // The three profiles.
     pub fn profiles(&self) -> &[Profile]
-        ensures { result.now ≡ self.now.profiles.items }
+        ensures { result.now ≡ self.now.profiles }
     {
-        self.profiles.as_slice()
+        &self.profiles
+    }
+
+    // The profile of this number, from 0 on, or none where there is no such profile.
+    pub fn profile(&self, number: u8) -> Option<&Profile>
+        ensures { MatchOption result (3 ≤ number) (λ f. (number < 3) × (profile_of f.now ≡ profile (catalogue_of self.now) number)) }
+    {
+        self.profiles.get(usize::from(number))
     }
 }
 
@@ -46,7 +55,7 @@ impl Profile {
         self.generations.as_slice()
     }
 
-    // The number of the current generation, and 0 where there is none.
+    // The number of the current generation, and 0 where there is none: an `Option` would have two values for none.
     pub fn current(&self) -> u32
         ensures { result ≡ self.now.current }
     {

@@ -1,35 +1,24 @@
 // Whether a path may be removed.
 ghost use Rattle.catalogue.specs.View.{catalogue_from, profile_of};
-ghost use Rattle.model.specs.Fits.{Removable, names_path};
-ghost use Rattle.std.specs.Prelude.{◌≡◌, Decides};
+ghost use Rattle.model.specs.Fits.{Removable, any, names_path};
+ghost use Rattle.std.specs.Prelude.{◌≡◌, map, Decides};
 
 use crate::profile::Profile;
 use naming::Hash;
-use records::{PathRecord, Test, is_any, is_named, is_registered, is_unneeded};
+use records::{PathRecord, is_named, is_registered, is_unneeded};
 
-// A profile with a generation that names this hash.
-#[derive(Drop)]
-struct NamedBy<'a>(&'a Hash);
-
-impl<'a> Test for NamedBy<'a> {
-    type Element = Profile;
-
-    ghost passes = { λ t f. names_path t.0.now.bytes (profile_of f).generations };
-
-    fn passes(&self, profile: &Profile) -> bool {
-        is_named(profile.generations.as_slice(), self.0)
-    }
+// Whether a generation of a profile names this hash.
+fn is_generation(profiles: &[Profile], hash: &Hash) -> bool
+    ensures { result ≡ any (λ f. names_path hash.now.bytes f.generations) (map profile_of profiles.now) }
+{
+    profiles
+        .iter()
+        .any(|profile| is_named(profile.generations.as_slice(), hash))
 }
 
 // Whether the path of this hash may be removed.
 pub(crate) fn is_removable(paths: &[PathRecord], profiles: &[Profile], hash: &Hash) -> bool
     ensures { Decides result (Removable (catalogue_from paths.now profiles.now) hash.now.bytes) }
 {
-    if !is_registered(paths, hash) {
-        return false;
-    }
-    if is_any(&NamedBy(hash), profiles) {
-        return false;
-    }
-    is_unneeded(paths, hash)
+    is_registered(paths, hash) && !is_generation(profiles, hash) && is_unneeded(paths, hash)
 }

@@ -1,83 +1,22 @@
 // Listings applied to a new catalogue, and a catalogue of 40 paths.
 use crate::entries::{hash, plain_path};
-use catalogue::{Catalogue, Profile};
+use catalogue::Catalogue;
 use queries::{listing_entry, listing_len};
-use records::{Entry, PathRecord};
-
-fn same_path(a: &PathRecord, b: &PathRecord) -> bool {
-    let from = a.refs.as_slice();
-    let to = b.refs.as_slice();
-    if from.len() != to.len() {
-        return false;
-    }
-    for place in 0..from.len() {
-        if from[place] != to[place] {
-            return false;
-        }
-    }
-    a.hash == b.hash && a.name == b.name && a.size == b.size && a.first == b.first
-}
-
-fn same_paths(a: &[PathRecord], b: &[PathRecord]) -> bool {
-    if a.len() != b.len() {
-        return false;
-    }
-    for row in 0..a.len() {
-        if !same_path(&a[row], &b[row]) {
-            return false;
-        }
-    }
-    true
-}
-
-fn same_profile(a: &Profile, b: &Profile) -> bool {
-    let from = a.generations();
-    let to = b.generations();
-    if from.len() != to.len() {
-        return false;
-    }
-    for place in 0..from.len() {
-        if from[place].number != to[place].number || from[place].hash != to[place].hash {
-            return false;
-        }
-    }
-    a.current() == b.current()
-}
-
-fn same_profiles(a: &[Profile], b: &[Profile]) -> bool {
-    if a.len() != b.len() {
-        return false;
-    }
-    for place in 0..a.len() {
-        if !same_profile(&a[place], &b[place]) {
-            return false;
-        }
-    }
-    true
-}
+use records::Entry;
 
 // How many entries of the listing fit one after the other.
 fn make(listed: &Catalogue, made: &mut Catalogue) -> usize {
-    let mut count = 0;
-    for place in 0..listing_len(listed) {
-        if let Some(entry) = listing_entry(listed, place) {
-            if made.apply(&entry).is_ok() {
-                count = place + 1;
-            }
-        }
-    }
-    count
-}
-
-fn is_same(a: &Catalogue, b: &Catalogue) -> bool {
-    same_paths(a.paths(), b.paths()) && same_profiles(a.profiles(), b.profiles())
+    (0..listing_len(listed))
+        .filter_map(|place| listing_entry(listed, place))
+        .take_while(|entry| made.apply(entry).is_ok())
+        .count()
 }
 
 // The listing makes the catalogue again.
 pub(crate) fn again(rt: &HostRuntime, listed: &Catalogue) -> anyhow::Result<()> {
     let mut made = Catalogue::new(rt.alloc(), listed.blocks())?;
     let count = make(listed, &mut made);
-    let same = is_same(listed, &made);
+    let same = *listed == made;
     let paths = listed.paths().len();
     println!(rt; "A listing of {paths} paths, {count} entries, makes the same again: {same}")?;
     Ok(())
@@ -86,14 +25,10 @@ pub(crate) fn again(rt: &HostRuntime, listed: &Catalogue) -> anyhow::Result<()> 
 // 40 paths, each with the eight before it as its references, and 18 generations.
 pub(crate) fn full(rt: &HostRuntime) -> anyhow::Result<()> {
     let mut catalogue = Catalogue::new(rt.alloc(), 256)?;
-    let mut fitting = 0u32;
-    for number in 0..41u8 {
-        if let Some(entry) = plain_path(number, 0, 0, before(&ALL, number)) {
-            if catalogue.apply(&entry).is_ok() {
-                fitting = u32::from(number) + 1;
-            }
-        }
-    }
+    let fitting = (0..41u8)
+        .filter_map(|number| plain_path(number, 0, 0, before(&ALL, number)))
+        .take_while(|entry| catalogue.apply(entry).is_ok())
+        .count();
     println!(rt; "Of 41 paths the first {fitting} fit.")?;
     commits(&mut catalogue);
     again(rt, &catalogue)

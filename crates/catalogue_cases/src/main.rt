@@ -11,11 +11,10 @@ use order::RowSet;
 use queries::{closure, free_run, newest, newest_below};
 use records::Entry;
 
-// Whether the entry could be applied.
-fn apply(catalogue: &mut Catalogue, entry: Option<Entry>) -> bool {
-    match entry {
-        None => false,
-        Some(entry) => catalogue.apply(&entry).is_ok(),
+// Applies the entry, where it could be made and fits.
+fn apply(catalogue: &mut Catalogue, entry: Option<Entry>) {
+    if let Some(entry) = entry {
+        let _ = catalogue.apply(&entry);
     }
 }
 
@@ -35,7 +34,7 @@ fn registers(rt: &HostRuntime, catalogue: &mut Catalogue) -> anyhow::Result<()> 
 fn generations(rt: &HostRuntime, catalogue: &mut Catalogue) -> anyhow::Result<()> {
     println!(rt; "Generations, each entry applied where it fits:")?;
     for (what, kind, profile, number, part) in tables::GENERATIONS {
-        let entry = entries::of_profile(kind, profile, number, part);
+        let entry = Some(entries::of_profile(kind, profile, number, part));
         let answer = told(catalogue, entry);
         apply(catalogue, entry);
         println!(rt; "  {answer}  {what}")?;

@@ -13,26 +13,18 @@ const B: &[u8] = b"0000000000000000000000000000000b";
 const C: &[u8] = b"0000000000000000000000000000000c";
 
 fn hash(part: &[u8]) -> Result<Hash, Fail> {
-    match Hash::from_part(part) {
-        Some(hash) => Ok(hash),
-        None => Err(Fail::new("no hash part")),
-    }
+    Ok(Hash::from_part(part).ok_or("no hash part")?)
 }
 
 fn register(part: &[u8], size: u32, first: u32, refs: &[Hash]) -> Result<Entry, Fail> {
-    let hash = hash(part)?;
-    let Some(name) = Name::new(b"tool") else {
-        return Err(Fail::new("no name"));
-    };
-    let Some(refs) = References::from_slice(refs) else {
-        return Err(Fail::new("too many references"));
-    };
     Ok(Entry::Register(PathRecord {
-        hash,
-        name,
+        hash: hash(part)?,
+        name: Name::new(b"tool").ok_or("no name")?,
         size,
         first,
-        refs,
+        refs: References::from_slice(refs)
+            .ok()
+            .ok_or("too many references")?,
     }))
 }
 
@@ -42,13 +34,7 @@ fn apply(rt: &impl Abort, catalogue: &mut Catalogue, entry: &Entry) {
 
 #[test]
 fn registers(rt: HostRuntime) -> Result<(), Fail> {
-    match Catalogue::new(rt.alloc(), 256) {
-        Ok(mut catalogue) => registers_on(&rt, &mut catalogue),
-        Err(_) => Err(Fail::new("no memory")),
-    }
-}
-
-fn registers_on(rt: &impl Abort, catalogue: &mut Catalogue) -> Result<(), Fail> {
+    let mut catalogue = Catalogue::new(rt.alloc(), 256)?;
     assert!(rt; !catalogue.fits(&register(A, 16385, 129, &[])?));
     assert!(rt; catalogue.fits(&register(A, 16384, 129, &[])?));
     assert!(rt; catalogue.fits(&register(A, 16384, 192, &[])?));
@@ -57,7 +43,7 @@ fn registers_on(rt: &impl Abort, catalogue: &mut Catalogue) -> Result<(), Fail> 
     assert!(rt; !catalogue.fits(&register(A, 0, 129, &[])?));
     assert!(rt; !catalogue.fits(&register(A, 0, 0, &[hash(B)?])?));
     assert!(rt; catalogue.fits(&register(A, 0, 0, &[hash(A)?])?));
-    apply(rt, catalogue, &register(A, 257, 200, &[])?);
+    apply(&rt, &mut catalogue, &register(A, 257, 200, &[])?);
     assert!(rt; !catalogue.fits(&register(A, 0, 0, &[])?));
     assert!(rt; !catalogue.fits(&register(B, 1, 201, &[])?));
     assert!(rt; catalogue.fits(&register(B, 1, 202, &[hash(A)?, hash(B)?])?));
@@ -67,14 +53,8 @@ fn registers_on(rt: &impl Abort, catalogue: &mut Catalogue) -> Result<(), Fail> 
 
 #[test]
 fn generations(rt: HostRuntime) -> Result<(), Fail> {
-    match Catalogue::new(rt.alloc(), 256) {
-        Ok(mut catalogue) => generations_on(&rt, &mut catalogue),
-        Err(_) => Err(Fail::new("no memory")),
-    }
-}
-
-fn generations_on(rt: &impl Abort, catalogue: &mut Catalogue) -> Result<(), Fail> {
-    apply(rt, catalogue, &register(A, 0, 0, &[])?);
+    let mut catalogue = Catalogue::new(rt.alloc(), 256)?;
+    apply(&rt, &mut catalogue, &register(A, 0, 0, &[])?);
     let commit = Entry::Commit {
         profile: 2,
         number: 999999,
@@ -85,7 +65,7 @@ fn generations_on(rt: &impl Abort, catalogue: &mut Catalogue) -> Result<(), Fail
         number: 999999,
     };
     assert!(rt; !catalogue.fits(&forget));
-    apply(rt, catalogue, &commit);
+    apply(&rt, &mut catalogue, &commit);
     assert!(rt; !catalogue.fits(&commit));
     assert!(rt; !catalogue.fits(&forget));
     assert!(rt; !catalogue.fits(&Entry::Remove(hash(A)?)));
@@ -94,45 +74,37 @@ fn generations_on(rt: &impl Abort, catalogue: &mut Catalogue) -> Result<(), Fail
 
 #[test]
 fn closures(rt: HostRuntime) -> Result<(), Fail> {
-    match Catalogue::new(rt.alloc(), 256) {
-        Ok(mut catalogue) => closures_on(&rt, &mut catalogue),
-        Err(_) => Err(Fail::new("no memory")),
-    }
-}
-
-fn closures_on(rt: &impl Abort, catalogue: &mut Catalogue) -> Result<(), Fail> {
-    apply(rt, catalogue, &register(A, 0, 0, &[])?);
-    apply(rt, catalogue, &register(B, 0, 0, &[hash(A)?])?);
-    apply(rt, catalogue, &register(C, 0, 0, &[hash(B)?, hash(C)?])?);
-    assert_eq!(rt; closure(catalogue, 0).len(), 1);
-    assert_eq!(rt; closure(catalogue, 2).len(), 3);
-    assert_eq!(rt; closure(catalogue, 3).len(), 0);
+    let mut catalogue = Catalogue::new(rt.alloc(), 256)?;
+    apply(&rt, &mut catalogue, &register(A, 0, 0, &[])?);
+    apply(&rt, &mut catalogue, &register(B, 0, 0, &[hash(A)?])?);
+    apply(
+        &rt,
+        &mut catalogue,
+        &register(C, 0, 0, &[hash(B)?, hash(C)?])?,
+    );
+    assert_eq!(rt; closure(&catalogue, 0).len(), 1);
+    assert_eq!(rt; closure(&catalogue, 2).len(), 3);
+    assert_eq!(rt; closure(&catalogue, 3).len(), 0);
     assert!(rt; !catalogue.fits(&Entry::Remove(hash(B)?)));
-    apply(rt, catalogue, &Entry::Remove(hash(C)?));
+    apply(&rt, &mut catalogue, &Entry::Remove(hash(C)?));
     assert!(rt; catalogue.fits(&Entry::Remove(hash(B)?)));
     Ok(())
 }
 
 #[test]
 fn free_runs(rt: HostRuntime) -> Result<(), Fail> {
-    match Catalogue::new(rt.alloc(), 256) {
-        Ok(mut catalogue) => free_runs_on(&rt, &mut catalogue),
-        Err(_) => Err(Fail::new("no memory")),
-    }
-}
-
-fn free_runs_on(rt: &impl Abort, catalogue: &mut Catalogue) -> Result<(), Fail> {
-    assert_eq!(rt; free_run(catalogue, &[], 0), Some(0));
-    assert_eq!(rt; free_run(catalogue, &[], 1), Some(255));
-    assert_eq!(rt; free_run(catalogue, &[], 2), Some(254));
-    apply(rt, catalogue, &register(A, 256, 254, &[])?);
-    assert_eq!(rt; free_run(catalogue, &[], 1), Some(255));
-    assert_eq!(rt; free_run(catalogue, &[], 2), Some(252));
+    let mut catalogue = Catalogue::new(rt.alloc(), 256)?;
+    assert_eq!(rt; free_run(&catalogue, &[], 0), Some(0));
+    assert_eq!(rt; free_run(&catalogue, &[], 1), Some(255));
+    assert_eq!(rt; free_run(&catalogue, &[], 2), Some(254));
+    apply(&rt, &mut catalogue, &register(A, 256, 254, &[])?);
+    assert_eq!(rt; free_run(&catalogue, &[], 1), Some(255));
+    assert_eq!(rt; free_run(&catalogue, &[], 2), Some(252));
     let half_built = [Run {
         first: 129,
         count: 100,
     }];
-    assert_eq!(rt; free_run(catalogue, &half_built, 25), Some(229));
-    assert_eq!(rt; free_run(catalogue, &half_built, 26), None);
+    assert_eq!(rt; free_run(&catalogue, &half_built, 25), Some(229));
+    assert_eq!(rt; free_run(&catalogue, &half_built, 26), None);
     Ok(())
 }

@@ -65,11 +65,6 @@ leads_all xs row i s all found k =
     let long = length-map xs path_of in
     (λ h. ((found k).0 h).1, λ h. (found k).1 (omega (arith, h.0.to), h))
 
-pub leads_none : (xs : List PathRecord) (row : ℕ) (s : RowSet) → length xs ≤ row → HasJust s (λ k. ⊥)
-    → HasJust s (λ k. Leads (map path_of xs) row k × (k < 64))
-leads_none xs row s past none k =
-    let long = length-map xs path_of in (λ h. absurd ((none k).0 h), λ h. absurd (omega (arith, h.0.from)))
-
 -- As many rows as a slice has that lends the paths.
 pub row_count : (slice items : List PathRecord) → slice ≡ items → length slice ≡ length (map path_of items)
 row_count slice items lent = ap length lent ∙ sym (length-map items path_of)

@@ -1,12 +1,10 @@
 -- The places of a listing, part by part.
-use Rattle.std.proofs.Common.{◌≡◌, ℕ, zero, suc, ◌+◌, ◌-◌, ◌<◌, ◌≤◌, true, false, List, [], ◌∷◌, ◌++◌, map, length, get_or, drop, is_some, Some, None, Option, sym, refl, ap, ◌∙◌, subst, arith}
+use Rattle.std.proofs.Common.{◌≡◌, ℕ, zero, suc, ◌+◌, ◌-◌, ◌<◌, ◌≤◌, List, [], ◌∷◌, ◌++◌, map, length, get_or, drop, vec_items, Some, None, sym, refl, ap, ◌∙◌, subst, arith}
 use mathlib.Core.Logic.{∥∥₁_elim}
 use denote.Struct.Props.{props}
-use Rattle.std.specs.List.{slice_get}
-use Rattle.std.specs.Option.{option_map}
+use Rattle.std.specs.List.{fold, slice_get, sum}
 use Rattle.std.proofs.lemmas.List.{drop_all, drop_more, get_or-map, length-append, length-map}
 use Rattle.std.proofs.lemmas.Option.{slice_get-get_or}
-use Rattle.std.proofs.lemmas.Bool.{both_ways}
 use Rattle.model.specs.Fits.{Sound}
 use Rattle.model.proofs.Rows.{listing_short}
 use Rattle.model.specs.Plain as plain
@@ -110,18 +108,31 @@ module _ (slice items : List PathRecord) (rest : List plain.Entry) (lent : slice
   past_paths past =
       sym (nth_right registers rest i (omega (arith, registers_long)) ∙ ap (λ n. slice_get rest (i - n)) registers_long)
 
--- Whether there is an entry in a place tells whether the list is longer.
-pub there_is : {X Y : Type 0} (f : X → Y) (xs : List Y) (i : ℕ) (o : Option X) → option_map f o ≡ slice_get xs i → is_some o ≡ true → i < length xs
-there_is f xs i None is e = absurd (both_ways false refl e)
-there_is f [] i (Some x) is e = let z : ◌≡◌ {A = ℕ} 0 1 = cc in absurd (omega arith)
-there_is f (y ∷ ys) zero (Some x) is e = omega arith
-there_is f (y ∷ ys) (suc i) (Some x) is e = let rest = there_is f ys i (Some x) is e in omega arith
+-- How many entries make the profiles.
+abbrev pub listed_len : Profile → ℕ
+listed_len f = length (profile_listing 0 (profile_of f))
 
-pub there_is_none : {X Y : Type 0} (f : X → Y) (xs : List Y) (i : ℕ) (o : Option X) → option_map f o ≡ slice_get xs i → is_some o ≡ false → length xs ≤ i
-there_is_none f [] i o is e = omega arith
-there_is_none f (y ∷ ys) i (Some x) is e = absurd (both_ways true e refl)
-there_is_none f (y ∷ ys) zero None is e = let z : ◌≡◌ {A = ℕ} 0 1 = cc in absurd (omega arith)
-there_is_none f (y ∷ ys) (suc i) None is e = let rest = there_is_none f ys i None is e in omega arith
+same_long : (p : ℕ) (f : Profile) → length (profile_listing p (profile_of f)) ≡ listed_len f
+same_long p f =
+    by (vec_items f.generations)
+  where
+    by : (gens : List Generation) → length (profile_listing p (profile_from (map generation_of gens) f.current)) ≡ length (profile_listing 0 (profile_from (map generation_of gens) f.current))
+    by [] = refl
+    by (g ∷ gens) = some_long (g ∷ gens) f.current p (λ e. omega arith) ∙ sym (some_long (g ∷ gens) f.current 0 (λ e. omega arith))
+
+profiles_from : (p n : ℕ) (fs : List Profile) → fold (λ a x. a + x) n (map listed_len fs) ≡ n + length (profiles_listing p (map profile_of fs))
+profiles_from p n [] = omega arith
+profiles_from p n (f ∷ fs) =
+    profiles_from (p + 1) (n + listed_len f) fs
+    ∙ omega (arith, same_long p f, length-append (profile_listing p (profile_of f)) (profiles_listing (p + 1) (map profile_of fs)))
+
+pub profiles_long : (fs : List Profile) → sum (map listed_len fs) ≡ length (profiles_listing 0 (map profile_of fs))
+profiles_long fs = profiles_from 0 0 fs ∙ omega arith
+
+pub listing_long : (paths : List PathRecord) (fs : List Profile) → length (listing (record { paths = map path_of paths; profiles = map profile_of fs })) ≡ length paths + sum (map listed_len fs)
+listing_long paths fs =
+    length-append (map plain.register (map path_of paths)) (profiles_listing 0 (map profile_of fs))
+    ∙ omega (arith, length-map (map path_of paths) plain.register, length-map paths path_of, profiles_long fs)
 
 pub short : (n : ℕ) (cat : plain.Catalogue) → ∥ Sound n cat ∥₁ → length (listing cat) ≤ 61
 short n cat sound = ∥∥₁_elim sound (hlevel props) (λ s. listing_short n cat s)

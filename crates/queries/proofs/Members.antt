@@ -72,14 +72,6 @@ module _ (n : ℕ) (cat : Catalogue) (sound : ∥ Sound n cat ∥₁) where
           ];
     }
 
-    -- Row i is no member.
-    pub walked_skips : (Holds s i → ⊥) → Walked paths row s b → Walked paths row s i
-    walked_skips out w = record {
-      start = w.start;
-      only = w.only;
-      shut = λ k j up h l. elim (ℕ_discrete k i) [ yes e ↦ absurd (out (subst (Holds s) e h)) | no ne ↦ w.shut k j (omega arith) h l ];
-    }
-
   module _ (row : ℕ) (there : row < length paths) (s : RowSet) where
     pub walked_none : (e : RowSet) → HasJust e (λ k. ⊥) → HasJust s (λ k. Holds e k ⊎ ((k ≡ row) × (k < 64))) → Walked paths row s (length paths)
     walked_none e none one = record {

@@ -27,9 +27,6 @@ module _ (gens : List Generation) where
   read_number k x less is = at_number k x less ∙ ap (λ g. g.number) (sym is)
 
   module _ (looked : ℕ → Type 0) where
-    pub number_none : Greatest by_number gens looked None → GreatestNumber (map generation_of gens) looked None
-    number_none none k within look = none k (rw (length-map gens generation_of) at within, look)
-
     pub number_some : (i n : ℕ) (x : Generation) → n ≡ (get_or gens i x).number → Greatest by_number gens looked (Some i)
         → GreatestNumber (map generation_of gens) looked (Some n)
     number_some i n x is top =
@@ -85,20 +82,11 @@ module _ (c : Catalogue) where
         | no none ↦ omega arith
       ]
 
-  pub profile_generations : (slice : List Profile) → slice ≡ vec_items c.profiles → (p : ℕ) (x : Profile) → p < length slice → x ≡ get_or slice p x
-      → (gens : List Generation) → gens ≡ vec_items x.generations
+  pub generations_of : (p : ℕ) (f : Profile) → p < 3 → profile_of f ≡ profile (catalogue_of c) p → (gens : List Generation) → gens ≡ vec_items f.generations
       → (map generation_of gens ≡ (profile (catalogue_of c) p).generations) × (length gens ≤ 6)
-  profile_generations slice same p x less is gens e =
-      let three = c.three in
-      let alike = ap length same in
-      let view = ap (λ f. f.generations) (get_or-map profile_of slice p x plain.unused less) in
-      let are =
-      ap (map generation_of) e
-      ∙ ap (λ f. map generation_of (vec_items f.generations)) is
-      ∙ sym view
-      ∙ ap (λ fs. (get_or (map profile_of fs) p plain.unused).generations) same
-      in
-      let few = few_generations p (omega (arith, less, alike, three)) in
+  generations_of p f less is gens lent =
+      let are = ap (map generation_of) lent ∙ ap (λ q. q.generations) is in
+      let few = few_generations p less in
       let long = length-map gens generation_of in
       let count = ap length are in (are, omega (arith, few, long, count))
 
@@ -106,6 +94,6 @@ module _ (c : Catalogue) where
   pub none_past : (p : ℕ) → 3 ≤ p → (P : ℕ → Type 0) → GreatestNumber (profile (catalogue_of c) p).generations P None
   none_past p past P k less look =
       let three = c.three in
-      let long = length-map (vec_items c.profiles) profile_of in
+      let long = length-map c.profiles profile_of in
       let none = ap (λ f. length f.generations) (get_or_past (catalogue_of c).profiles p plain.unused (omega (arith, past, three, long))) in
       absurd (omega (arith, less, none))

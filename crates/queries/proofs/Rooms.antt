@@ -1,19 +1,19 @@
 -- A walk from the end of the card down, past every run that is in the way.
-use Rattle.std.proofs.Common.{◌≡◌, ℕ, ◌+◌, ◌-◌, ◌<◌, ◌≤◌, max, true, false, ◌&&◌, ltb, List, map, length, get_or, Some, None, Option, sym, ap, ◌∙◌, subst, arith}
+use Rattle.std.proofs.Common.{◌≡◌, ℕ, ◌+◌, ◌-◌, ◌<◌, ◌≤◌, max, true, false, ◌&&◌, ltb, List, [], ◌∷◌, ◌++◌, map, length, get_or, Some, None, Option, MatchOption, refl, ap, ◌∙◌, subst, arith}
 use native.Mathlib.Decide.{dec_le}
-use Rattle.std.proofs.lemmas.List.{get_or-append-add, get_or_append_left, get_or-map, length-append, length-map}
-use Rattle.std.proofs.lemmas.Bool.{and_parts, both_ways, ltb-true, or_from}
+use Rattle.std.proofs.lemmas.List.{get_or-map, length-map}
+use Rattle.std.proofs.lemmas.Bool.{and_parts, both_ways, ltb-true}
 use Rattle.model.specs.Plain.{Span, run}
-use Rattle.model.specs.Fits.{Apart, any}
+use Rattle.model.specs.Fits.{Apart}
 use Rattle.model.specs.Free.{Free, LastFree, nowhere}
-use Rattle.model.proofs.Chains.{any_append, none_at}
+use Rattle.model.proofs.Chains.{none_at}
 use Rattle.records.specs.declared.records.PathRecord.{PathRecord}
 use Rattle.records.specs.declared.runs.Run.{Run}
-use Rattle.records.specs.Find.{Finds}
 use Rattle.records.specs.Runs.{meets, span_of}
 use Rattle.records.specs.View.{path_of}
 use Rattle.records.proofs.Apart.{shares_meets}
-use Rattle.records.proofs.Finds.{any_map}
+use Rattle.records.proofs.Finds.{any_map, unmet_all}
+use Rattle.std.specs.List.{AllWithin, HoldsAt}
 use Rattle.queries.specs.Room.{Met, taken_by}
 
 pub record Crossing (s t : Span) : Type 0 where
@@ -34,49 +34,34 @@ crosses s t e =
       after = ltb-true t.start (s.start + s.count) cross.1;
     }
 
-module _ (paths : List PathRecord) (building : List Run) (s : Span) where
-  abbrev taken : List Span
-  taken = taken_by (map path_of paths) building
+-- The runs that are taken, as the code meets them.
+pub run_from : Span → Run
+run_from s = record { first = s.start; count = s.count }
 
-  paths_long : length (map run (map path_of paths)) ≡ length paths
-  paths_long = length-map (map path_of paths) run ∙ length-map paths path_of
+abbrev pub path_run : PathRecord → Run
+path_run p = run_from (run (path_of p))
 
-  pub met_path : (i : ℕ) (x : PathRecord) (t : Run) → Finds (λ p. meets s (run (path_of p))) paths (Some i) → x ≡ get_or paths i x
-      → span_of t ≡ run (path_of x) → Met taken s (Some t)
-  met_path i x t found read is =
-      let long = paths_long in
-      let inside : i < length (map path_of paths) = rw (length-map paths path_of) found.0 in
-      let in-runs : i < length (map run (map path_of paths)) = omega (arith, found.0) in
-      let total = length-append (map run (map path_of paths)) (map span_of building) in
-      let here : path_of (get_or paths i x) ≡ path_of x = ap path_of (sym read) in (
-        i,
-        (
-          omega arith,
-          get_or_append_left (map run (map path_of paths)) (map span_of building) nowhere i in-runs
-              ∙ get_or-map run (map path_of paths) i (path_of x) nowhere inside
-              ∙ ap run (get_or-map path_of paths i x (path_of x) found.0 ∙ here)
-              ∙ sym is,
-          ap (meets s) (is ∙ ap run (sym here)) ∙ found.1 x,
-        ),
-      )
+pub run_back : (r : Run) (s : Span) → span_of r ≡ s → r ≡ run_from s
+unfolding run_from
+run_back r s e = ap (λ (t : Span). record { first = t.start; count = t.count }) e
 
-  pub met_building : (j : ℕ) (d : Run) → Finds (λ r. meets s (span_of r)) building (Some j) → Met taken s (Some (get_or building j d))
-  met_building j d found =
-      let total = length-append (map run (map path_of paths)) (map span_of building) in
-      let long = length-map building span_of in
-      let runs = length (map run (map path_of paths)) in (
-        runs + j,
-        (
-          omega (arith, found.0),
-          get_or-append-add (map run (map path_of paths)) (map span_of building) j nowhere ∙ get_or-map span_of building j d nowhere found.0,
-          found.1 d,
-        ),
-      )
+abbrev pub taken_runs : List PathRecord → List Run → List Run
+taken_runs paths building = map path_run paths ++ building
 
-  pub met_none : any (λ p. meets s (run (path_of p))) paths ≡ false → any (λ r. meets s (span_of r)) building ≡ false → Met taken s None
-  met_none first second =
-      any_append (meets s) (map run (map path_of paths)) (map span_of building)
-      ∙ or_from _ _ (any_map run (meets s) (map path_of paths) ∙ any_map path_of (λ q. meets s (run q)) paths ∙ first) (any_map span_of (meets s) building ∙ second)
+pub taken_is : (paths : List PathRecord) (building : List Run) → map span_of (taken_runs paths building) ≡ taken_by (map path_of paths) building
+unfolding run_from
+taken_is [] building = refl
+taken_is (p ∷ paths) building = ap (λ ts. run (path_of p) ∷ ts) (taken_is paths building)
+
+-- The first of them that shares a block with s, or that none does.
+pub met_first : (runs : List Run) (s : Span) (r : Option Run)
+    → MatchOption r (AllWithin (λ t. meets s (span_of t) ≡ false) runs 0 (length runs))
+    (λ t. (meets s (span_of t) ≡ true) × (i : ℕ) × (i < length runs) × HoldsAt (λ u. u ≡ t) runs i × AllWithin (λ u. meets s (span_of u) ≡ false) runs 0 i)
+    → Met (map span_of runs) s r
+met_first runs s None none =
+    any_map span_of (meets s) runs ∙ unmet_all (λ t. meets s (span_of t)) runs (length runs) (omega arith) (λ k d less. none k d (omega arith) less)
+met_first runs s (Some t) (shares, i, less, here, rest) =
+    (i, (rw (length-map runs span_of) less, get_or-map span_of runs i t nowhere less ∙ ap span_of (here t), shares))
 
 -- Every free run ends at this block or before.
 pub record Limit (n : ℕ) (taken : List Span) (count end : ℕ) : Type 0 where
@@ -86,9 +71,6 @@ pub record Limit (n : ℕ) (taken : List Span) (count end : ℕ) : Type 0 where
 module _ (n : ℕ) (taken : List Span) (count : ℕ) (some : 0 < count) where
   abbrev pub at : ℕ → Span
   at x = record { start = x; count = count }
-
-  pub limit_start : Limit n taken count n
-  limit_start = record { inside = omega arith; ends = λ x free. free.high }
 
   pub falls : (end : ℕ) (t : Run) → count ≤ end → Met taken (at (end - count)) (Some t) → t.first < end
   falls end t room met = let cross = crosses (at (end - count)) (span_of t) met.1.2 in omega (arith, cross.after)

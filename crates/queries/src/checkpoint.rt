@@ -10,9 +10,6 @@ ghost use Rattle.std.specs.Option.{option_map};
 use catalogue::{Catalogue, Profile};
 use records::Entry;
 
-// The most entries of a listing: 40 paths, and six generations and a switch for each of three profiles.
-const MOST_LISTED: usize = 61;
-
 // How many entries make a profile: one for each generation, and one for the current of them.
 fn profile_len(profile: &Profile) -> usize
     ensures { (p : ℕ) → length (profile_listing p (profile_of profile.now)) ≡ result }
@@ -26,22 +23,21 @@ fn profile_entry(number: u8, profile: &Profile, place: usize) -> Entry
     requires { place < length (profile_listing number (profile_of profile.now)) }
     ensures { Some (entry_of result) ≡ slice_get (profile_listing number (profile_of profile.now)) place }
 {
-    let generations = profile.generations();
-    if place < generations.len() {
-        let generation = generations[place];
-        return Entry::Commit {
+    match profile.generations().get(place) {
+        Some(generation) => Entry::Commit {
             profile: number,
             number: generation.number,
             hash: generation.hash,
-        };
-    }
-    Entry::Switch {
-        profile: number,
-        number: profile.current(),
+        },
+        None => Entry::Switch {
+            profile: number,
+            number: profile.current(),
+        },
     }
 }
 
-// The entry in this place of those that make the profiles.
+// The entry in this place of those that make the profiles. What is left of the place is counted down: `flat_map` and `nth` would ask for an iterator over
+// the entries of one profile, and be no plainer.
 fn profiles_entry(profiles: &[Profile], place: usize) -> Option<Entry>
     requires { length profiles.now ≤ 256 }
     ensures { option_map entry_of result ≡ slice_get (profiles_listing 0 (map profile_of profiles.now)) place }
@@ -62,21 +58,17 @@ pub fn listing_entry(catalogue: &Catalogue, place: usize) -> Option<Entry>
     ensures { option_map entry_of result ≡ slice_get (listing (catalogue_of catalogue.now)) place }
 {
     let paths = catalogue.paths();
-    if place < paths.len() {
-        return Some(Entry::Register(paths[place]));
+    match paths.get(place) {
+        Some(path) => Some(Entry::Register(*path)),
+        None => profiles_entry(catalogue.profiles(), place - paths.len()),
     }
-    profiles_entry(catalogue.profiles(), place - paths.len())
 }
 
-// How many entries the listing has: at most 61.
+// How many entries the listing has: at most 61, of 40 paths, and of six generations and a switch for each of three profiles.
 pub fn listing_len(catalogue: &Catalogue) -> usize
     ensures value { result ≡ length (listing (catalogue_of catalogue.now)) }
     ensures bound { result ≤ 61 }
 {
-    for place in 0..MOST_LISTED {
-        if listing_entry(catalogue, place).is_none() {
-            return place;
-        }
-    }
-    MOST_LISTED
+    let of_profiles: usize = catalogue.profiles().iter().map(profile_len).sum();
+    catalogue.paths().len() + of_profiles
 }

@@ -9,16 +9,17 @@ use catalogue::Catalogue;
 use order::RowSet;
 use records::PathRecord;
 
-// The rows below 64 to which the path in this row refers.
+// The rows below 64 to which the path in this row refers. The loop is not shared with `places_below`: of a test that is handed in as a closure the contract
+// would have to say for each row that it answered so, and be no plainer than the two.
 fn references_of(paths: &[PathRecord], row: usize) -> RowSet
     ensures { HasJust result (λ k. Leads (map path_of paths.now) row k × (k < 64)) }
 {
     let mut rows = RowSet::empty();
-    if row >= paths.len() {
+    let Some(from) = paths.get(row) else {
         return rows;
-    }
+    };
     for (place, path) in paths.iter().enumerate() {
-        if paths[row].refers_to(&path.hash) {
+        if from.refers_to(&path.hash) {
             rows.insert(place);
         }
     }

@@ -6,33 +6,17 @@ ghost use Rattle.records.specs.View.{path_of};
 ghost use Rattle.std.specs.Prelude.{◌≡◌, map};
 
 use catalogue::Catalogue;
-use records::{DATA, Meeting, PathRecord, Run, Test, find};
-
-// A run that shares a block with this one.
-#[derive(Drop)]
-struct Sharing(Run);
-
-impl Test for Sharing {
-    type Element = Run;
-
-    ghost passes = { λ t r. meets (span_of t.0) (span_of r) };
-
-    fn passes(&self, run: &Run) -> bool {
-        self.0.meets(run)
-    }
-}
+use records::{DATA, PathRecord, Run};
 
 // One of the taken runs that shares a block with this one.
 fn met(paths: &[PathRecord], building: &[Run], run: Run) -> Option<Run>
     ensures { Met (taken_by (map path_of paths.now) building.now) (span_of run) result }
 {
-    if let Some(row) = find(&Meeting(run), paths) {
-        return Some(paths[row].run());
-    }
-    match find(&Sharing(run), building) {
-        Some(place) => Some(building[place]),
-        None => None,
-    }
+    paths
+        .iter()
+        .map(|path| path.run())
+        .chain(building.iter().copied())
+        .find(|taken| run.meets(taken))
 }
 
 // The first block of the last free run of `count` blocks, where those in `building` are taken too.

@@ -1,5 +1,5 @@
 // The newest generation of a profile, and the newest before another: where a rollback leads.
-ghost use Rattle.std.specs.Prelude.{◌≡◌, ◌<◌, ◌≤◌, map, length, MatchOption};
+ghost use Rattle.std.specs.Prelude.{◌<◌, map, length};
 ghost use Rattle.catalogue.specs.Whole.{catalogue_of};
 ghost use Rattle.model.specs.Fits.{profile as profile_of_number};
 ghost use Rattle.order.specs.Rows.{HasJust, Holds};
@@ -8,22 +8,9 @@ ghost use Rattle.records.specs.View.{generation_of};
 
 use catalogue::Catalogue;
 use order::{RowSet, greatest};
-use records::{ByNumber, Generation};
+use records::{ByNumber, Generation, MOST_GENERATIONS};
 
-// The generations of the profile of this number, or none where there is no such profile.
-fn generations_of(catalogue: &Catalogue, profile: u8) -> Option<&[Generation]>
-    ensures { MatchOption result (3 ≤ profile) (λ g. (map generation_of g.now ≡ (profile_of_number (catalogue_of catalogue.now) profile).generations) × (length g.now ≤ 6)) }
-{
-    let profiles = catalogue.profiles();
-    let place = profile as usize;
-    if place < profiles.len() {
-        Some(profiles[place].generations())
-    } else {
-        None
-    }
-}
-
-// The places below 64 of the generations with numbers below this one.
+// The places below 64 of the generations with numbers below this one. (Why its loop is not shared with `references_of` stands there.)
 fn places_below(generations: &[Generation], number: u32) -> RowSet
     ensures { HasJust result (λ k. (k < length generations.now) × ((number_at (map generation_of generations.now) k < number) × (k < 64))) }
 {
@@ -40,28 +27,22 @@ fn places_below(generations: &[Generation], number: u32) -> RowSet
 fn greatest_number(generations: &[Generation], places: RowSet) -> Option<u32>
     ensures { GreatestNumber (map generation_of generations.now) (Holds places) result }
 {
-    match greatest(&ByNumber, generations, places) {
-        None => None,
-        Some(place) => Some(generations[place].number),
-    }
+    let place = greatest(&ByNumber, generations, places)?;
+    Some(generations[place].number)
 }
 
 // The greatest number of a generation in the profile, or none where it has no generation.
 pub fn newest(catalogue: &Catalogue, profile: u8) -> Option<u32>
     ensures { Newest (profile_of_number (catalogue_of catalogue.now) profile).generations result }
 {
-    match generations_of(catalogue, profile) {
-        None => None,
-        Some(generations) => greatest_number(generations, RowSet::below(6)),
-    }
+    let generations = catalogue.profile(profile)?.generations();
+    greatest_number(generations, RowSet::below(MOST_GENERATIONS))
 }
 
 // The greatest number below `number` of a generation in the profile, or none where no number there is below it.
 pub fn newest_below(catalogue: &Catalogue, profile: u8, number: u32) -> Option<u32>
     ensures { NewestBelow (profile_of_number (catalogue_of catalogue.now) profile).generations number result }
 {
-    match generations_of(catalogue, profile) {
-        None => None,
-        Some(generations) => greatest_number(generations, places_below(generations, number)),
-    }
+    let generations = catalogue.profile(profile)?.generations();
+    greatest_number(generations, places_below(generations, number))
 }

@@ -1,12 +1,15 @@
-use Rattle.std.proofs.Common.{◌<◌, length, arith}
+use Rattle.std.proofs.Common.{◌∙◌, arith}
+use Rattle.std.proofs.lemmas.List.{length-set}
 use Rattle.catalogue.proofs.Clears.{cleared_all, cleared_more}
 use Rattle.catalogue.proofs.making.clear_profiles.Goals as goal
 
 pub loop-profile-preserved : goal.loop-profile-preserved
 loop-profile-preserved c =
-    let less : c.loop-profile.profile-index < length c.loop-profile.profiles = omega arith in
-    cleared_more c.loop-profile.profiles c.loop-profile.profile-index c.clear.new.self less c.clear.ensures c.loop-profile.invariant
+    let fs = c.loop-profile.profile-items in
+    let so_far = c.loop-profile.invariant in
+    (length-set fs c.loop-profile.profile-index _ ∙ so_far.0, cleared_more fs c.loop-profile.profile-index _ (omega arith) c.clear.ensures so_far.1)
 
 pub returns : goal.returns
 returns c =
-    cleared_all c.loop-profile.profiles c.loop-profile.profile-index (omega arith) (omega arith) c.loop-profile.invariant
+    let so_far = c.loop-profile.invariant in
+    cleared_all c.loop-profile.profile-items c.loop-profile.profile-index (omega (arith, so_far.0)) (omega arith) so_far.1

@@ -7,6 +7,6 @@ invariant_of-result c =
     let paths = c.in_ok-paths in
     let fs = c.in_ok-profiles in record {
       room = paths.ensures.capacity;
-      three = three_made (vec_items fs.profiles) fs.ensures;
-      sound = sound_new c.args.blocks _ (view_nothing (vec_items paths.paths) (vec_items fs.profiles) paths.ensures.items fs.ensures);
+      three = three_made fs.profiles fs.ensures;
+      sound = sound_new c.args.blocks _ (view_nothing (vec_items paths.paths) fs.profiles paths.ensures.items fs.ensures);
     }

@@ -13,10 +13,10 @@ invariant_of-self c =
     let p = c.args.path.now in
     let more = c.push_reserved.new.self in
     let whole = whole_paths cat more (register (path_of p)) c.requires
-    (view_pushed (vec_items cat.paths) (vec_items cat.profiles) p (vec_items more) c.push_reserved.ensures.items) c.push_reserved.ensures.capacity in
+    (view_pushed (vec_items cat.paths) cat.profiles p (vec_items more) c.push_reserved.ensures.items) c.push_reserved.ensures.capacity in
     record { room = whole.0; three = whole.1; sound = whole.2 }
 
 pub returns : goal.returns
 returns c =
     let cat = c.args.self.now in
-    (view_pushed (vec_items cat.paths) (vec_items cat.profiles) c.args.path.now (vec_items c.push_reserved.new.self) c.push_reserved.ensures.items, refl)
+    (view_pushed (vec_items cat.paths) cat.profiles c.args.path.now (vec_items c.push_reserved.new.self) c.push_reserved.ensures.items, refl)
