@@ -4,7 +4,8 @@ use Rattle.std.specs.Str.{bytes_eq}
 use Rattle.std.proofs.lemmas.List.{ext_get_or}
 use Rattle.std.proofs.lemmas.Bool.{cases_Bool, cases_eq, cases_order, or_cases, both_ways}
 use Rattle.naming.specs.Hash.{number_of}
-use Rattle.naming.proofs.Digits.{each_below, same_digits}
+use Rattle.naming.specs.Laws.{same_bytes}
+use Rattle.naming.proofs.Digits.{each_below}
 use Rattle.model.specs.Plain.{Bytes, Profile, blocks, register, switch, remove}
 use Rattle.model.specs.Fits.{has_hash, Whole, Climbing, profile}
 use Rattle.model.proofs.Chains.{any_place}
@@ -98,7 +99,7 @@ refusal_once l call r s a b =
 
 -- Hashes of one number are one hash.
 whole_once : (g h : Bytes) → Whole g → Whole h → number_of g ≡ number_of h → g ≡ h
-whole_once g h a b e = same_digits 256 g h (a.0 ∙ sym b.0) (each_below 256 g (omega arith) (λ k less. a.1 k)) (each_below 256 h (omega arith) (λ k less. b.1 k)) e
+whole_once g h a b e = same_bytes g h (a.0 ∙ sym b.0) (each_below 256 g (omega arith) (λ k less. a.1 k)) (each_below 256 h (omega arith) (λ k less. b.1 k)) e
 
 registered_whole : (l : Ledger) (q : Bytes) → SoundLedger l → has_hash q (paths l) ≡ true → Whole q
 registered_whole l q s there =

@@ -1,5 +1,5 @@
 -- Rust's calls and answers as the rules' plain ones.
-use Rattle.std.specs.Prelude.{ℕ, Bool, List, map, nat_eq}
+use Rattle.std.specs.Prelude.{ℕ, Bool, List, Ok, Err, Result, map, nat_eq}
 use Rattle.std.specs.List.{range_with_len}
 use Rattle.std.specs.Option.{option_map}
 use Rattle.order.specs.Rows.{bit}
@@ -9,7 +9,8 @@ use Rattle.ledger.specs.Calls as plain
 use Rattle.ledger.specs.declared.calls.Call.{Call}
 use Rattle.ledger.specs.declared.calls.Call.TheVariants.{Lease, Release, Begin, Put, Seal, Scrap, Commit, Rollback, Switch, Forget, Collect, Step, Open, Find, Closure, Read}
 use Rattle.ledger.specs.declared.calls.Answer.{Answer}
-use Rattle.ledger.specs.declared.calls.Answer.TheVariants.{Done, Number, Marked, Removed, Ended, Found, Members, Block, Refused}
+use Rattle.ledger.specs.declared.refusals.Refusal.{Refusal}
+use Rattle.ledger.specs.declared.calls.Answer.TheVariants.{Done, Number, Marked, Removed, Ended, Found, Members, Block}
 
 abbrev pub call_of : Call → plain.Call
 call_of (Lease h q) = plain.Lease h q.bytes
@@ -33,13 +34,17 @@ call_of (Read q i room) = plain.Read q.bytes i room
 abbrev pub bits_of : RowSet → ℕ → List Bool
 bits_of s paths = map (λ k. nat_eq (bit s.bits k) 1) (range_with_len 0 paths)
 
-abbrev pub answer_of : Answer → plain.Answer
-answer_of Done = plain.Done
-answer_of (Number k) = plain.Number k
-answer_of (Marked q) = plain.Marked q.bytes
-answer_of (Removed q) = plain.Removed q.bytes
-answer_of Ended = plain.Ended
-answer_of (Found p) = plain.Found (option_map path_of p)
-answer_of (Members m) = plain.Members (bits_of m.rows m.paths) m.count
-answer_of (Block x k) = plain.Block x k
-answer_of (Refused r) = plain.Refused r
+-- What is granted, and what a call answers: that, or the refusal.
+abbrev pub granted_of : Answer → plain.Answer
+granted_of Done = plain.Done
+granted_of (Number k) = plain.Number k
+granted_of (Marked q) = plain.Marked q.bytes
+granted_of (Removed q) = plain.Removed q.bytes
+granted_of Ended = plain.Ended
+granted_of (Found p) = plain.Found (option_map path_of p)
+granted_of (Members m) = plain.Members (bits_of m.rows m.paths) m.count
+granted_of (Block x k) = plain.Block x k
+
+abbrev pub answer_of : Result Answer Refusal → plain.Answer
+answer_of (Ok answer) = granted_of answer
+answer_of (Err refusal) = plain.Refused refusal

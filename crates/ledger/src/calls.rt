@@ -1,11 +1,10 @@
 // The calls of a store, and what they answer.
-use crate::refusals::Refusal;
 use naming::Hash;
 use order::RowSet;
 use records::PathRecord;
 
 // A call with its arguments: any value of their types may come.
-#[derive(Clone, Copy)]
+#[derive(Clone, Copy, PartialEq, Eq, Debug)]
 pub enum Call<'a> {
     Lease {
         holder: u8,
@@ -61,16 +60,18 @@ pub enum Call<'a> {
     },
 }
 
-// The members of a closure: one bit for each of the paths in registration order, and how many are one.
-#[derive(Clone, Copy)]
+// The members of a closure: one bit for each of the paths in registration order, how many paths there are, and how many bits are one. The call answers the
+// bits with both numbers, which the set alone does not tell.
+#[derive(Clone, Copy, PartialEq, Eq, Debug)]
 pub struct Members {
     pub rows: RowSet,
     pub paths: usize,
     pub count: usize,
 }
 
-// What a granted call answers, or why it was refused.
-#[derive(Clone, Copy)]
+// What a granted call answers; a call answers this or a refusal, `Result<Answer, Refusal>`. A block is in fixed memory, with the number of its bytes
+// that are the content's beside it.
+#[derive(Clone, Copy, PartialEq, Eq, Debug)]
 pub enum Answer {
     Done,
     Number(u32),
@@ -80,5 +81,4 @@ pub enum Answer {
     Found(Option<PathRecord>),
     Members(Members),
     Block { content: [u8; 256], count: usize },
-    Refused(Refusal),
 }

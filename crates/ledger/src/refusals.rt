@@ -26,7 +26,7 @@ pub enum Refusal {
 }
 
 impl Refusal {
-    // The refusal's number.
+    // The refusal's number. By name: `u8::from` would not say which of its numbers it is, since a bad entry has a block's number too.
     pub fn number(&self) -> u8
         ensures { result ≡ row self.now }
     {
