@@ -1,13 +1,12 @@
 -- A bench card is a disk.
-use Rattle.std.proofs.Common.{◌≡◌, ℕ, ◌+◌, ◌/◌, ◌<◌, min, Bool, true, false, cond, not, ◌⊎◌, List, length, Ok, Err, Result, sym, refl, ap, ◌∙◌, inl, inr, arith}
+use Rattle.std.proofs.Common.{◌≡◌, ℕ, ◌+◌, ◌/◌, ◌<◌, min, Bool, true, false, not, List, length, Result, sym, refl, ap, ◌∙◌, inl, inr, arith}
 use native.Mathlib.Decide.{ℕ_discrete}
 use Rattle.disk.specs.declared.Fault.{Fault}
-use Rattle.disk.specs.declared.Fault.TheVariants.{Dark}
-use Rattle.disk.specs.Meaning.{Block, Sound, Write, Written, Torn, GainsOnly, GainsNone, Settled, Restarted}
+use Rattle.disk.specs.Meaning.{Block, Sound, Write, Written, Torn, GainsOnly}
 use Rattle.disk.specs.Row.{blocks_in, block_of, with_block}
 use Rattle.disk.proofs.Rows.{block_whole, with_length, with_here, with_other}
 use Rattle.bench_card.specs.declared.supply.Supply.{Supply}
-use Rattle.bench_card.specs.Card.{card_size, card_means, bench, strikes, spent, relit, CardWrite, Laid, keeps, found}
+use Rattle.bench_card.specs.Card.{card_size, card_means, bench, strikes, spent, outcome}
 
 pub bench_sound : (row : List ℕ) (lit : Bool) → Sound (bench (card_size row) row lit)
 bench_sound row lit = record {
@@ -24,11 +23,6 @@ bench_sound row lit = record {
 -- A row of the same length has as many blocks.
 same_size : (row row' : List ℕ) → length row' ≡ length row → card_size row' ≡ card_size row
 same_size row row' same = ap (λ l. min (l / 512) 4294967296) same
-
--- The answer of an operation that is not refused.
-abbrev outcome : Bool → Result Unit Fault
-outcome true = Err Dark
-outcome false = Ok tt
 
 -- A block that the card has, replaced.
 module _ (row : List ℕ) (b : ℕ) (x : Block) (whole : length x ≡ 256) (within : b < card_size row) where
@@ -73,42 +67,10 @@ module _ (row : List ℕ) (b : ℕ) (x : Block) (whole : length x ≡ 256) (with
       gains = gains_after s.lit s'.lit;
     })
 
-    -- Both promises of a write, by whether the power goes in it.
-    pub write_told : (ends : Bool) → ends ≡ strikes s → Write (card_means row s) b x (outcome ends) (card_means row' s') × CardWrite row s b x (outcome ends) row' s'
-    write_told true is = (inr (write_torn (sym is)), inr (lit, sym is, stored, counted))
-    write_told false is = (write_done (sym is), (sym is, stored, counted))
+    told : (ends : Bool) → ends ≡ strikes s → Write (card_means row s) b x (outcome ends) (card_means row' s')
+    told true is = inr (write_torn (sym is))
+    told false is = write_done (sym is)
 
--- Blocks laid out of a choice of what may be found.
-module _ (row row' : List ℕ) (f : ℕ → Block) (l : Laid (card_size row) f row row') (s s' : Supply) (lit : s'.lit ≡ true) (chosen : (k : ℕ) → (f k ≡ block_of row k) ⊎ (f k ≡ block_of row (card_size row + k))) where
-  abbrev m : ℕ
-  m = card_size row
-
-  alone : (k : ℕ) (y : Block) → k < m → (y ≡ block_of row' k) ⊎ (y ≡ block_of row' (m + k)) → y ≡ f k
-  alone k y less (inl same) = same ∙ l.present k less
-  alone k y less (inr same) = same ∙ l.settled k less
-
-  laid_settled : Settled (bench m row' s'.lit)
-  laid_settled = record { alone = λ k y less either. alone k y less either ∙ sym (l.present k less); there = λ _ _. inl refl }
-
-  laid_gains : GainsNone (bench m row s.lit) (bench m row' s'.lit)
-  laid_gains k y less either =
-      let is = alone k y less either in
-      elim (chosen k) [ inl same ↦ inl (is ∙ same) | inr same ↦ inr (is ∙ same) ]
-
-  laid_restarted : Restarted (card_means row s) (card_means row' s')
-  laid_restarted = rw (same_size row row' l.size) record {
-    size = refl;
-    light = lit;
-    comes = λ k less. elim (chosen k) [ inl same ↦ inl (l.present k less ∙ same) | inr same ↦ inr (l.present k less ∙ same) ];
-    settled = laid_settled;
-    gains = laid_gains;
-  }
-
--- What a restart finds is present or settled.
-pick : (t : Bool) (x y : Block) → (cond t x y ≡ x) ⊎ (cond t x y ≡ y)
-pick true x y = inl refl
-pick false x y = inr refl
-
-pub restart_restarted : (row row' : List ℕ) (kept : ℕ) (s s' : Supply) → s' ≡ relit s → Laid (card_size row) (found (card_size row) kept row) row row' → Restarted (card_means row s) (card_means row' s')
-restart_restarted row row' kept s s' lit l =
-    laid_restarted row row' _ l s s' (ap (λ t. t.lit) lit) (λ k. pick (keeps kept k) (block_of row k) (block_of row (card_size row + k)))
+    -- The promise of a write, whether or not the power goes in it.
+    pub write_told : (r : Result Unit Fault) → r ≡ outcome (strikes s) → Write (card_means row s) b x r (card_means row' s')
+    write_told r answer = rw answer (told (strikes s) refl)

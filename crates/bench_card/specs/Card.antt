@@ -46,6 +46,17 @@ spent s = record { lit = not (strikes s); cut = s.cut; done = min (s.done + 1) (
 abbrev pub relit : Supply → Supply
 relit s = record { lit = true; cut = s.cut; done = s.done }
 
+-- What an operation that is not refused answers, by whether the power goes in it.
+abbrev pub outcome : Bool → Result Unit Fault
+outcome true = Err Dark
+outcome false = Ok tt
+
+-- What a card answers before it looks for block b: there is no power, it has no such block, or it goes on.
+abbrev pub Admitted : Meaning → ℕ → Result Unit Fault → Type 0
+Admitted m b (Ok _) = (m.lit ≡ true) × (b < m.blocks)
+Admitted m b (Err Dark) = m.lit ≡ false
+Admitted m b (Err NoBlock) = (m.lit ≡ true) × (m.blocks ≤ b)
+
 -- Whether a restart keeps the present content of block k: bit k mod 32 of the restart number.
 abbrev pub keeps : ℕ → ℕ → Bool
 keeps kept k = kept / 2 ^ (k % 32) % 2 == 1

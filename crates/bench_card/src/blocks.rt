@@ -3,8 +3,6 @@ ghost use Rattle.std.specs.Prelude.{◌≡◌, ◌+◌, ◌*◌, ◌<◌, ◌≤
 ghost use Rattle.bench_card.specs.Card.{Laid, Reverted, keeps};
 ghost use Rattle.disk.specs.Row.{block_of, blocks_in, with_block};
 
-use disk::{read_block, write_block};
-
 // Whether a restart with the number `kept` keeps the present content of block `b`.
 pub(crate) fn is_kept(kept: u32, b: u64) -> bool
     ensures { result ≡ keeps kept b }
@@ -17,9 +15,8 @@ fn copy_block(row: &mut [u8], from: u64, to: u64)
     requires { (from < blocks_in row.old) × (to < blocks_in row.old) }
     ensures { row.new ≡ with_block row.old to (block_of row.old from) }
 {
-    let mut block = [0; 256];
-    let _ = read_block(row, from, &mut block);
-    let _ = write_block(row, to, &block);
+    let at = from as usize * 256;
+    row.copy_within(at..at + 256, to as usize * 256);
 }
 
 // Copies each of the `n` present blocks to its settled place.
@@ -27,9 +24,8 @@ pub(crate) fn settle(row: &mut [u8], n: u64)
     requires { (n + n) * 256 ≤ length row.old }
     ensures { Laid n (block_of row.old) row.old row.new }
 {
-    for b in 0..n {
-        copy_block(row, b, n + b);
-    }
+    let half = n as usize * 256;
+    row.copy_within(..half, half);
 }
 
 // Takes each of the `n` present blocks from its settled place, unless `kept` keeps it.
@@ -37,6 +33,7 @@ pub(crate) fn revert(row: &mut [u8], n: u64, kept: u32)
     requires { (n + n) * 256 ≤ length row.old }
     ensures { Reverted n kept n row.old row.new }
 {
+    // By the number, which says what is kept. After `chunks_exact_mut` a proof would know no byte of the row.
     for b in 0..n {
         if !is_kept(kept, b) {
             copy_block(row, n + b, b);

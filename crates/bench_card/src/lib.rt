@@ -1,10 +1,9 @@
 // The bench card: a disk on lent bytes whose power goes at an operation known beforehand.
 #![tactic(auto)]
 
-ghost use Rattle.std.specs.Prelude.{◌≡◌, ◌<◌};
-ghost use Rattle.bench_card.specs.Card.{CardBarrier, CardRestart, CardWrite, card_means, fresh, present_part, settled_part, spent, strikes};
+ghost use Rattle.std.specs.Prelude.{◌≡◌};
+ghost use Rattle.bench_card.specs.Card.{Admitted, CardBarrier, CardRestart, CardWrite, card_means, fresh, present_part, settled_part};
 ghost use Rattle.disk.specs.Meaning.{Barrier, Restarted, Write};
-ghost use Rattle.disk.specs.Row.{blocks_in, with_block};
 
 mod blocks;
 mod supply;
@@ -21,7 +20,7 @@ pub struct BenchCard<'a> {
 }
 
 impl<'a> BenchCard<'a> {
-    // A lit card on these bytes. Its power goes in the operation numbered `cut` (counted from 1; 0: in none), and a
+    // A lit card on these bytes. Its power goes in the operation numbered `cut` (counted from 1, so that 0 is none), and a
     // restart keeps what was written to the blocks whose bit in `kept` is one.
     pub fn new(bytes: &'a mut [u8], cut: u64, kept: u32) -> BenchCard<'a>
         ensures bytes { result.bytes.now ≡ bytes.old }
@@ -64,12 +63,24 @@ impl<'a> BenchCard<'a> {
         self.supply.done
     }
 
+    // Refuses everything where there is no power, and else a block that the card has not.
+    fn admit(&self, b: u64) -> Result<(), Fault>
+        ensures { Admitted (card_means self.now.bytes.now self.now.supply) b result }
+    {
+        self.supply.power()?;
+        if b < self.size() {
+            Ok(())
+        } else {
+            Err(Fault::NoBlock)
+        }
+    }
+
     // The present blocks, one after the other.
     pub fn present(&self) -> &[u8]
         ensures { result.now ≡ present_part self.now.bytes.now }
     {
         let half = self.size() as usize * 256;
-        &self.bytes[0..half]
+        &self.bytes[..half]
     }
 
     // The settled blocks, one after the other.
@@ -94,17 +105,6 @@ impl<'a> BenchCard<'a> {
     }
 }
 
-// Stores a block and counts the operation; says whether the power goes in it.
-fn store(row: &mut [u8], supply: &mut Supply, b: u64, from: &[u8; 256]) -> bool
-    requires { b < blocks_in row.old }
-    ensures stored { row.new ≡ with_block row.old b from.now }
-    ensures counted { supply.new ≡ spent supply.old }
-    ensures answer { result ≡ strikes supply.old }
-{
-    let _ = write_block(row, b, from);
-    supply.spend()
-}
-
 impl<'a> Disk for BenchCard<'a> {
     ghost means = { λ s. card_means s.bytes.now s.supply };
 
@@ -113,12 +113,7 @@ impl<'a> Disk for BenchCard<'a> {
     }
 
     fn read(&self, b: u64, into: &mut [u8; 256]) -> Result<(), Fault> {
-        if !self.is_lit() {
-            return Err(Fault::Dark);
-        }
-        if b >= self.size() {
-            return Err(Fault::NoBlock);
-        }
+        self.admit(b)?;
         read_block(self.bytes, b, into)
     }
 
@@ -128,16 +123,9 @@ impl<'a> Disk for BenchCard<'a> {
         ensures kept { self.new.kept ≡ self.old.kept }
         ensures lender { self.new.bytes.ghost_name ≡ self.old.bytes.ghost_name }
     {
-        if !self.is_lit() {
-            return Err(Fault::Dark);
-        }
-        if b >= self.size() {
-            return Err(Fault::NoBlock);
-        }
-        let mut supply = self.supply;
-        let ends = store(self.bytes, &mut supply, b, from);
-        self.supply = supply;
-        if ends { Err(Fault::Dark) } else { Ok(()) }
+        self.admit(b)?;
+        write_block(self.bytes, b, from)?;
+        self.supply.spend()
     }
 
     fn barrier(&mut self) -> Result<(), Fault>
@@ -146,12 +134,8 @@ impl<'a> Disk for BenchCard<'a> {
         ensures kept { self.new.kept ≡ self.old.kept }
         ensures lender { self.new.bytes.ghost_name ≡ self.old.bytes.ghost_name }
     {
-        if !self.is_lit() {
-            return Err(Fault::Dark);
-        }
-        if self.supply.spend() {
-            return Err(Fault::Dark);
-        }
+        self.supply.power()?;
+        self.supply.spend()?;
         let n = self.size();
         blocks::settle(self.bytes, n);
         Ok(())
@@ -164,8 +148,7 @@ impl<'a> Disk for BenchCard<'a> {
         ensures lender { self.new.bytes.ghost_name ≡ self.old.bytes.ghost_name }
     {
         let n = self.size();
-        let kept = self.kept;
-        blocks::revert(self.bytes, n, kept);
+        blocks::revert(self.bytes, n, self.kept);
         blocks::settle(self.bytes, n);
         self.supply.light();
     }

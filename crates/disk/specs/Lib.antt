@@ -1,3 +1,4 @@
 pub mod Meaning
 pub mod Row
 pub mod Plain
+pub mod Faults

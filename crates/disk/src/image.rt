@@ -37,9 +37,11 @@ impl<'a> Image<'a> {
     }
 }
 
+// A row may have more whole blocks than a disk has, so the size of the disk is asked for before the row's.
 impl<'a> Disk for Image<'a> {
     ghost means = { λ s. plain s.bytes.now };
 
+    #[tactic(auto, using(crate::proofs::Rows::block_whole))]
     fn size(&self) -> u64 {
         (self.bytes.len() as u64 / 256).min(MOST_BLOCKS)
     }
@@ -51,6 +53,7 @@ impl<'a> Disk for Image<'a> {
         row::read_block(self.bytes, b, into)
     }
 
+    #[tactic(auto, using(crate::proofs::Rows::with_length, crate::proofs::Rows::with_here, crate::proofs::Rows::with_other))]
     fn write(&mut self, b: u64, from: &[u8; 256]) -> Result<(), Fault>
         ensures meaning { Write (plain self.old.bytes.now) b from.now result (plain self.new.bytes.now) }
         ensures bytes { Stored self.old.bytes.now b from.now result self.new.bytes.now }

@@ -8,6 +8,8 @@ mod row;
 
 pub use image::Image;
 pub use row::{read_block, write_block};
+use std::error::Error;
+use std::fmt;
 
 // Why a disk did not do what was asked: it has no power, or it has no such block.
 #[derive(Clone, Copy, PartialEq, Eq, Debug)]
@@ -15,6 +17,22 @@ pub enum Fault {
     Dark,
     NoBlock,
 }
+
+impl fmt::Display for Fault {
+    ghost use Rattle.std.specs.Prelude.{Some};
+    ghost use Rattle.disk.specs.Faults.{fault_text};
+
+    ghost output = { λ fault. Some (fault_text fault) };
+
+    fn fmt<W: fmt::Write>(&self, f: &mut fmt::Formatter<W>) -> fmt::Result {
+        match self {
+            Fault::Dark => f.write_str("the disk has no power"),
+            Fault::NoBlock => f.write_str("the disk has no such block"),
+        }
+    }
+}
+
+impl Error for Fault {}
 
 // The most blocks that a disk has.
 pub const MOST_BLOCKS: u64 = 0x1_0000_0000;

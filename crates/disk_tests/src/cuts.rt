@@ -1,9 +1,9 @@
 // Every cut of a short run of writes and barriers: each block is found with a content that it may have.
 use super::is_full_of;
+use super::layered::layered;
 use bench_card::BenchCard;
-use disk::Disk;
+use disk::{Disk, Fault};
 use std::test::Fail;
-use write_behind::WriteBehind;
 
 const BLOCKS: usize = 18;
 
@@ -46,88 +46,89 @@ const STEPS: [Step; 26] = [
 // Restart numbers: none kept, all kept, and some.
 const KEPT: [u32; 5] = [0, 0xffff_ffff, 1, 0x0001_5555, 0x0002_aaaa];
 
-// Which contents each block has and may be found with: bit v stands for a block full of v.
+// Which content a block has, and with which it may be found: bit v stands for a block full of v.
+#[derive(Clone, Copy)]
+struct Contents {
+    present: u32,
+    may: u32,
+}
+
+impl Contents {
+    // Whether the block may be found with this content.
+    fn allows(&self, bit: u32) -> bool {
+        self.may & bit != 0
+    }
+}
+
+// The contents of each block.
 #[derive(Drop)]
 struct Allowed {
-    present: [u32; BLOCKS],
-    may: [u32; BLOCKS],
+    blocks: [Contents; BLOCKS],
 }
 
 impl Allowed {
     fn new() -> Allowed {
         Allowed {
-            present: [1; BLOCKS],
-            may: [1; BLOCKS],
+            blocks: [Contents { present: 1, may: 1 }; BLOCKS],
         }
     }
 
     // Whether done or cut, a write lets its block be found with the new content.
     fn writes(&mut self, b: usize, v: u8) {
-        if b < BLOCKS {
-            let bit = 1 << (v % 32);
-            let old = self.may[b];
-            self.may[b] = old | bit;
-            self.present[b] = bit;
+        if let Some(block) = self.blocks.get_mut(b) {
+            block.present = 1 << (v % 32);
+            block.may |= block.present;
         }
     }
 
     // A done barrier leaves the present contents alone.
     fn settles(&mut self) {
-        let present = self.present;
-        self.may = present;
+        for block in &mut self.blocks {
+            block.may = block.present;
+        }
     }
 }
 
 // Runs the steps until they end or the power goes.
-fn run<D: Disk>(disk: &mut D, allowed: &mut Allowed) {
-    for step in STEPS.iter() {
-        let answer = match *step {
+fn run<D: Disk>(disk: &mut D, allowed: &mut Allowed) -> Result<(), Fault> {
+    for step in STEPS {
+        match step {
             Step::Write(b, v) => {
                 allowed.writes(b, v);
-                disk.write(b as u64, &[v; 256])
+                disk.write(b as u64, &[v; 256])?;
             }
-            Step::Barrier => disk.barrier(),
-        };
-        match (answer, *step) {
-            (Err(_), _) => return,
-            (Ok(_), Step::Barrier) => allowed.settles(),
-            (Ok(_), Step::Write(_, _)) => {}
+            Step::Barrier => {
+                disk.barrier()?;
+                allowed.settles();
+            }
         }
     }
+    Ok(())
 }
 
 // The content of block `b`, as a bit; none if the block is not full of one small number.
-fn found<D: Disk>(disk: &D, b: usize) -> u32 {
+fn found<D: Disk>(disk: &D, b: usize) -> Option<u32> {
     let mut block = [0; 256];
-    if disk.read(b as u64, &mut block).is_err() {
-        return 0;
-    }
+    disk.read(b as u64, &mut block).ok()?;
     let v = block[0];
-    if v < 32 && is_full_of(&block, v) {
-        1 << v
-    } else {
-        0
-    }
+    (v < 32 && is_full_of(&block, v)).then_some(1 << (v % 32))
 }
 
 // Reads every block of a restarted disk, and sees that what is found is allowed.
 fn all_allowed<D: Disk>(disk: &D, allowed: &Allowed) -> bool {
-    for b in 0..BLOCKS {
-        if found(disk, b) & allowed.may[b] == 0 {
-            return false;
-        }
-    }
-    true
+    let mut blocks = allowed.blocks.iter().enumerate();
+    blocks.all(|(b, block)| found(disk, b).is_some_and(|bit| block.allows(bit)))
 }
 
 #[test]
 fn bench_card_cut_anywhere(rt: HostRuntime) {
     for cut in 0..28u64 {
-        for kept in KEPT.iter() {
+        for kept in KEPT {
             let mut bytes = [0; 512 * BLOCKS];
-            let mut card = BenchCard::new(&mut bytes, cut, *kept);
+            let mut card = BenchCard::new(&mut bytes, cut, kept);
             let mut allowed = Allowed::new();
-            run(&mut card, &mut allowed);
+            let ran = run(&mut card, &mut allowed);
+            assert!(rt; ran.is_ok() == card.is_lit());
             assert!(rt; card.is_lit() == (cut == 0 || cut > 26));
             card.restart();
             assert!(rt; all_allowed(&card, &allowed));
@@ -138,14 +139,12 @@ fn bench_card_cut_anywhere(rt: HostRuntime) {
 #[test]
 fn write_behind_cut_anywhere(rt: HostRuntime) -> Result<(), Fail> {
     for cut in 0..28u64 {
-        for kept in KEPT.iter() {
+        for kept in KEPT {
             let mut bytes = [0; 512 * BLOCKS];
-            let card = BenchCard::new(&mut bytes, cut, *kept);
-            let Ok(mut disk) = WriteBehind::new(rt.alloc(), card) else {
-                return Err(Fail::new("no memory"));
-            };
+            let card = BenchCard::new(&mut bytes, cut, kept);
+            let mut disk = layered(rt.alloc(), card)?;
             let mut allowed = Allowed::new();
-            run(&mut disk, &mut allowed);
+            let _ = run(&mut disk, &mut allowed);
             disk.restart();
             assert!(rt; all_allowed(&disk, &allowed));
             assert!(rt; disk.held().len() == 0);

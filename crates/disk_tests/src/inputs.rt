@@ -1,43 +1,36 @@
 // Bad input: what has no such block or no power refuses, and nothing changes.
 use super::is_full_of;
+use super::layered::layered;
 use bench_card::BenchCard;
 use disk::{Disk, Fault, Image};
 use std::process::Abort;
 use std::test::Fail;
-use write_behind::WriteBehind;
 
 // A lit disk refuses the blocks that it has not, and leaves the buffer alone.
 fn refuses_beyond<D: Disk>(rt: &impl Abort, disk: &mut D) {
     let n = disk.size();
-    let far = [n, n + 1, 0x1_0000_0000, u64::MAX];
-    for b in far.iter() {
+    for b in [n, n + 1, 0x1_0000_0000, u64::MAX] {
         let mut buffer = [7; 256];
-        assert_eq!(rt; disk.read(*b, &mut buffer), Err(Fault::NoBlock));
+        assert_eq!(rt; disk.read(b, &mut buffer), Err(Fault::NoBlock));
         assert!(rt; is_full_of(&buffer, 7));
-        assert_eq!(rt; disk.write(*b, &[9; 256]), Err(Fault::NoBlock));
+        assert_eq!(rt; disk.write(b, &[9; 256]), Err(Fault::NoBlock));
     }
 }
 
 // A dark disk refuses everything but a restart, and leaves the buffer alone.
 fn refuses_dark<D: Disk>(rt: &impl Abort, disk: &mut D) {
-    let blocks = [0, 1, u64::MAX];
-    for b in blocks.iter() {
+    for b in [0, 1, u64::MAX] {
         let mut buffer = [7; 256];
-        assert_eq!(rt; disk.read(*b, &mut buffer), Err(Fault::Dark));
+        assert_eq!(rt; disk.read(b, &mut buffer), Err(Fault::Dark));
         assert!(rt; is_full_of(&buffer, 7));
-        assert_eq!(rt; disk.write(*b, &[9; 256]), Err(Fault::Dark));
+        assert_eq!(rt; disk.write(b, &[9; 256]), Err(Fault::Dark));
         assert_eq!(rt; disk.barrier(), Err(Fault::Dark));
     }
 }
 
 // Whether each byte is as it was.
 fn is_untouched(bytes: &[u8]) -> bool {
-    for x in bytes {
-        if *x != 5 {
-            return false;
-        }
-    }
-    true
+    bytes.iter().all(|x| *x == 5)
 }
 
 // An image on these bytes has so many blocks, and refuses the others.
@@ -90,9 +83,7 @@ fn write_behind_over_dark_card(rt: HostRuntime) -> Result<(), Fail> {
     let mut bytes = [5; 1024];
     let mut card = BenchCard::new(&mut bytes, 1, 0);
     assert_eq!(rt; card.barrier(), Err(Fault::Dark));
-    let Ok(mut disk) = WriteBehind::new(rt.alloc(), card) else {
-        return Err(Fail::new("no memory"));
-    };
+    let mut disk = layered(rt.alloc(), card)?;
     refuses_dark(&rt, &mut disk);
     assert_eq!(rt; disk.held().len(), 0);
     assert_eq!(rt; disk.below().operations(), 1);
@@ -103,9 +94,8 @@ fn write_behind_over_dark_card(rt: HostRuntime) -> Result<(), Fail> {
 #[test]
 fn write_behind_sizes(rt: HostRuntime) -> Result<(), Fail> {
     let mut bytes = [5; 512];
-    let Ok(mut disk) = WriteBehind::new(rt.alloc(), Image::new(&mut bytes)) else {
-        return Err(Fail::new("no memory"));
-    };
+    let image = Image::new(&mut bytes);
+    let mut disk = layered(rt.alloc(), image)?;
     assert_eq!(rt; disk.size(), 2);
     refuses_beyond(&rt, &mut disk);
     assert_eq!(rt; disk.held().len(), 0);

@@ -6,14 +6,11 @@ mod cuts;
 #[cfg(test)]
 mod inputs;
 #[cfg(test)]
+mod layered;
+#[cfg(test)]
 mod story;
 
 // Whether a block holds `v` in each of its bytes.
 pub fn is_full_of(block: &[u8; 256], v: u8) -> bool {
-    for x in block {
-        if *x != v {
-            return false;
-        }
-    }
-    true
+    block.iter().all(|x| *x == v)
 }

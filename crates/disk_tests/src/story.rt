@@ -1,18 +1,16 @@
 // One block written to a bench card through write-behind, a power cut, a restart, and what is found.
 use super::is_full_of;
+use super::layered::layered;
 use bench_card::BenchCard;
 use disk::{Disk, Fault};
 use std::process::Abort;
 use std::test::Fail;
-use write_behind::WriteBehind;
 
 // What block 0 holds after a write of 8 and a barrier that is cut, with 3 settled in it before.
 fn found_after_cut(rt: &(impl Abort + AllocGlobal), cut: u64, kept: u32) -> Result<u8, Fail> {
     let mut bytes = [3; 1024];
     let card = BenchCard::new(&mut bytes, cut, kept);
-    let Ok(mut disk) = WriteBehind::new(rt.alloc(), card) else {
-        return Err(Fail::new("no memory"));
-    };
+    let mut disk = layered(rt.alloc(), card)?;
     assert_eq!(rt; disk.write(0, &[8; 256]), Ok(()));
     assert_eq!(rt; disk.held().len(), 1);
     assert_eq!(rt; disk.barrier(), Err(Fault::Dark));
@@ -40,9 +38,7 @@ fn old_or_new(rt: HostRuntime) -> Result<(), Fail> {
 fn longest_held_first(rt: HostRuntime) -> Result<(), Fail> {
     let mut bytes = [0; 512 * 18];
     let card = BenchCard::new(&mut bytes, 0, 0);
-    let Ok(mut disk) = WriteBehind::new(rt.alloc(), card) else {
-        return Err(Fail::new("no memory"));
-    };
+    let mut disk = layered(rt.alloc(), card)?;
     for b in 0..16u64 {
         assert_eq!(rt; disk.write(b, &[1; 256]), Ok(()));
     }

@@ -6,7 +6,8 @@ ghost use Rattle.trials.specs.Tried.{Tried, TriedOn};
 use disk::{Disk, Fault};
 
 // What came of a trial: whether the second barrier was done, and with which byte the block was found after the restart.
-#[derive(Clone, Copy)]
+// A byte is found in both cases, so the two are told beside each other, and not as an `Option` or a `Result`.
+#[derive(Clone, Copy, PartialEq, Eq, Debug)]
 pub struct Outcome {
     pub settled: bool,
     pub found: u8,

@@ -1,12 +1,14 @@
 -- What comes of the held blocks as they are brought to the disk below, one after the other.
-use Rattle.std.proofs.Common.{◌≡◌, ℕ, ◌+◌, ◌<◌, ◌≤◌, true, false, ◌⊎◌, List, [], ◌∷◌, ◌++◌, length, get_or, take, sym, refl, ap, ◌∙◌, inl, inr, arith, eq-eqb, ne_eqb}
+use Rattle.std.proofs.Common.{◌≡◌, ℕ, ◌+◌, ◌<◌, true, false, ◌⊎◌, List, [], ◌∷◌, ◌++◌, length, get_or, take, Err, Result, sym, refl, ap, ◌∙◌, inl, inr, arith, eq-eqb, ne_eqb}
 use native.Mathlib.Decide.{ℕ_discrete}
-use Rattle.std.proofs.lemmas.List.{take_more, take_all}
+use Rattle.std.proofs.lemmas.List.{take_more}
 use Rattle.std.proofs.lemmas.Bool.{both_ways}
+use Rattle.disk.specs.declared.Fault.{Fault}
+use Rattle.disk.specs.declared.Fault.TheVariants.{Dark, NoBlock}
 use Rattle.disk.specs.Meaning.{Block, Meaning, GainsOnly, Torn}
 use Rattle.write_behind.specs.declared.held.Pending.{Pending}
 use Rattle.write_behind.specs.Behind.{overlaid, Held}
-use Rattle.write_behind.specs.Order.{Sent, StoppedAt, Drained, Cut}
+use Rattle.write_behind.specs.Order.{Sent, StoppedAt, Send, Drained, Drain, Cut}
 use Rattle.write_behind.proofs.Helds.{held_take, held_at}
 
 -- No set gains a content, except what is held.
@@ -89,8 +91,13 @@ module _ {D : Type 0} (means : D → Meaning) where
       let next : take (i + 1) ps ≡ take i ps ++ (p ∷ []) = take_more ps i p less ∙ ap (λ q. take i ps ++ (q ∷ [])) (sym is) in
       rw next (drained_push d (take i ps) p e f before sent)
 
-  pub drained_all : (d : D) (ps : List Pending) (i : ℕ) (e : D) → length ps ≤ i → Drained means d (take i ps) e → Drained means d ps e
-  drained_all d ps i e all part = rw (take_all i ps all) at part
+  -- The write of the block at i is not done; r is what is answered then.
+  cut_at : (d : D) (ps : List Pending) (i : ℕ) (p : Pending) (e f : D) (y : Fault) → i < length ps → p ≡ get_or ps i p → Drained means d (take i ps) e → Send (means e) p (Err y) (means f) → Drain means d ps (Err y) f
+  cut_at d ps i p e f Dark less is before stop = (i, (p, (e, (less, is, before, stop))))
+  cut_at d ps i p e f NoBlock less is before never = absurd never
+
+  pub drain_cut : (d : D) (ps : List Pending) (i : ℕ) (p : Pending) (e f : D) (r : Result Unit Fault) (y z : Fault) → r ≡ Err y → y ≡ z → i < length ps → p ≡ get_or ps i p → Drained means d (take i ps) e → Send (means e) p (Err z) (means f) → Drain means d ps r f
+  drain_cut d ps i p e f r y z answer same less is before stop = rw (answer, same) (cut_at d ps i p e f z less is before stop)
 
   pub cut_stopped : (d : D) (ps : List Pending) (e : D) → (means d).lit ≡ true → Cut means d ps e → Stopped (means d) ps (means e)
   cut_stopped d ps e lit (i, (p, (f, (less, is, before, stop)))) =

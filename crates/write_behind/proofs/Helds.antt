@@ -1,9 +1,9 @@
 -- What is held, one block at a time.
-use Rattle.std.proofs.Common.{◌≡◌, ℕ, zero, suc, ◌+◌, ◌<◌, ◌≤◌, cond, eqb, ◌⊎◌, List, [], ◌∷◌, ◌++◌, length, get_or, take, drop, set, Some, None, Option, sym, refl, ap, ◌∙◌, inl, inr, arith, eq-eqb, ne_eqb}
-use Rattle.std.proofs.lemmas.List.{take_more, take_all, length-take-le}
+use Rattle.std.proofs.Common.{◌≡◌, ◌≢◌, ℕ, zero, suc, ◌<◌, cond, eqb, ◌⊎◌, List, [], ◌∷◌, ◌++◌, length, get_or, take, set, Some, None, Option, sym, refl, ap, ◌∙◌, inl, inr, arith, eq-eqb, ne_eqb}
+use Rattle.std.specs.Option.{MatchOption}
 use Rattle.disk.specs.Meaning.{Block}
 use Rattle.write_behind.specs.declared.held.Pending.{Pending}
-use Rattle.write_behind.specs.Behind.{overlaid, Held, Free, Last, Holds, Place}
+use Rattle.write_behind.specs.Behind.{overlaid, Held, Free, Last, Holds, Place, Added}
 
 -- One more is held.
 pub overlaid_push : (k : ℕ) (x : Block) (ps : List Pending) (p : Pending) → overlaid k x (ps ++ (p ∷ [])) ≡ cond (eqb p.at k) p.content (overlaid k x ps)
@@ -56,55 +56,40 @@ held_set k y (q ∷ ps) zero p (inr later) = inl (inr later)
 held_set k y (q ∷ ps) (suc i) p (inl here) = inl (inl here)
 held_set k y (q ∷ ps) (suc i) p (inr later) = elim (held_set k y ps i p later) [ inl old ↦ inl (inr old) | inr new ↦ inr new ]
 
--- Looking through the places: none so far, and one more.
 pub free_push : (b : ℕ) (ps : List Pending) (p : Pending) → Free b ps → (p.at ≡ b → ⊥) → Free b (ps ++ (p ∷ []))
 free_push b [] p free other = (other, tt)
 free_push b (q ∷ ps) p free other = (free.0, free_push b ps p free.1 other)
-
-pub last_push : (b : ℕ) (ps : List Pending) (p : Pending) → p.at ≡ b → Last b (ps ++ (p ∷ [])) (length ps)
-last_push b [] p hit = inl (refl, hit, tt)
-last_push b (q ∷ ps) p hit = inr (length ps, (refl, last_push b ps p hit))
-
-pub last_miss : (b : ℕ) (ps : List Pending) (i : ℕ) (p : Pending) → Last b ps i → (p.at ≡ b → ⊥) → Last b (ps ++ (p ∷ [])) i
-last_miss b [] i p last other = absurd last
-last_miss b (q ∷ ps) i p (inl first) other = inl (first.0, first.1, free_push b ps p first.2 other)
-last_miss b (q ∷ ps) i p (inr later) other = inr (later.0, (later.1.0, last_miss b ps later.0 p later.1.1 other))
 
 pub last_less : (b : ℕ) (ps : List Pending) (i : ℕ) → Last b ps i → i < length ps
 last_less b [] i last = absurd last
 last_less b (q ∷ ps) i (inl first) = omega (arith, first.0)
 last_less b (q ∷ ps) i (inr later) = omega (arith, later.1.0, last_less b ps later.0 later.1.1)
 
-pub place_none : (b : ℕ) → Place b [] None
-place_none b = tt
+-- The last place that is held for block b: nothing after it is.
+free_from : (b : ℕ) (ps : List Pending) → ((k : ℕ) (d : Pending) → k < length ps → (get_or ps k d).at ≢ b) → Free b ps
+free_from b [] none = tt
+free_from b (p ∷ ps) none = (none 0 p (omega arith), free_from b ps (λ k d less. none (suc k) d (omega arith)))
 
-pub place_miss : (b : ℕ) (ps : List Pending) (p : Pending) (o : Option ℕ) → Place b ps o → (p.at ≡ b → ⊥) → Place b (ps ++ (p ∷ [])) o
-place_miss b ps p (Some i) last other = last_miss b ps i p last other
-place_miss b ps p None free other = free_push b ps p free other
+last_at : (b : ℕ) (ps : List Pending) (i : ℕ) → i < length ps → ((d : Pending) → (get_or ps i d).at ≡ b) → ((k : ℕ) (d : Pending) → i < k → k < length ps → (get_or ps k d).at ≢ b) → Last b ps i
+last_at b [] i less here after = absurd (omega arith)
+last_at b (p ∷ ps) zero less here after = inl (refl, here p, free_from b ps (λ k d inside. after (suc k) d (omega arith) (omega arith)))
+last_at b (p ∷ ps) (suc i) less here after = inr (i, (refl, last_at b ps i (omega arith) here (λ k d more inside. after (suc k) d (omega arith) (omega arith))))
 
--- The same over a slice of held blocks, whose element at i is p.
-module _ (ps : List Pending) (i : ℕ) (p : Pending) (less : i < length ps) (is : p ≡ get_or ps i p) where
-  take_next : take (i + 1) ps ≡ take i ps ++ (p ∷ [])
-  take_next = take_more ps i p less ∙ ap (λ q. take i ps ++ (q ∷ [])) (sym is)
+pub place_found : (b : ℕ) (ps : List Pending) (r : Option ℕ)
+    → MatchOption r ((k : ℕ) (d : Pending) → k < length ps → (get_or ps k d).at ≢ b) (λ i. (i < length ps) × ((d : Pending) → (get_or ps i d).at ≡ b) × ((k : ℕ) (d : Pending) → i < k → k < length ps → (get_or ps k d).at ≢ b))
+    → Place b ps r
+place_found b ps None none = free_from b ps none
+place_found b ps (Some i) found = last_at b ps i found.0 found.1 found.2
 
-  pub overlaid_hit : (k : ℕ) (x : Block) → p.at ≡ k → p.content ≡ overlaid k x (take (i + 1) ps)
-  overlaid_hit k x hit = sym (ap (overlaid k x) take_next ∙ overlaid_push k x (take i ps) p ∙ simp (eq-eqb p.at k hit))
+-- What is held for block b lies over its content.
+pub overlaid_last : (b : ℕ) (x : Block) (ps : List Pending) (i : ℕ) (p : Pending) → Last b ps i → p ≡ get_or ps i p → overlaid b x ps ≡ p.content
+overlaid_last b x [] i p last is = absurd last
+overlaid_last b x (q ∷ ps) i p (inl first) is =
+    let is' : p ≡ q = rw first.0 at is in
+    overlaid_free b (cond (eqb q.at b) q.content x) ps first.2 ∙ simp (eq-eqb q.at b first.1) (ap (λ r. r.content) (sym is'))
+overlaid_last b x (q ∷ ps) i p (inr later) is =
+    let is' : p ≡ get_or ps later.0 p = rw later.1.0 at is in overlaid_last b (cond (eqb q.at b) q.content x) ps later.0 p later.1.1 is'
 
-  pub overlaid_miss : (k : ℕ) (x : Block) → (p.at ≡ k → ⊥) → overlaid k x (take i ps) ≡ overlaid k x (take (i + 1) ps)
-  overlaid_miss k x miss = sym (ap (overlaid k x) take_next ∙ overlaid_push k x (take i ps) p ∙ simp (ne_eqb p.at k miss))
-
-  pub place_hit_next : (b : ℕ) → p.at ≡ b → Place b (take (i + 1) ps) (Some i)
-  place_hit_next b hit =
-      let long : length (take i ps) ≡ i = length-take-le i ps (omega arith) in
-      rw take_next (rw long at (last_push b (take i ps) p hit))
-
-  pub place_miss_next : (b : ℕ) (o : Option ℕ) → Place b (take i ps) o → (p.at ≡ b → ⊥) → Place b (take (i + 1) ps) o
-  place_miss_next b o so_far miss = rw take_next (place_miss b (take i ps) p o so_far miss)
-
-pub place_all : (b : ℕ) (ps : List Pending) (i : ℕ) (o : Option ℕ) → length ps ≤ i → Place b (take i ps) o → Place b ps o
-place_all b ps i o all part = rw (take_all i ps all) at part
-
--- The first of some held blocks, and the others.
-pub first_rest : (ps : List Pending) (p : Pending) → 0 < length ps → p ≡ get_or ps 0 p → ps ≡ p ∷ drop 1 ps
-first_rest [] p some is = absurd (omega arith)
-first_rest (q ∷ ps) p some is = ap (λ r. r ∷ ps) (sym is)
+-- p is held as the newest.
+pub added_newest : (p : Pending) (ps qs : List Pending) → qs ≡ ps ++ (p ∷ []) → Added p.at p.content ps qs
+added_newest p ps qs is = (p, ((refl, refl), is))

@@ -1,12 +1,12 @@
 -- A disk with blocks held back in front of it is a disk.
-use Rattle.std.proofs.Common.{◌≡◌, ℕ, ◌<◌, Bool, true, false, cond, eqb, ◌⊎◌, List, [], ◌∷◌, length, Err, Result, sym, refl, ap, ◌∙◌, inl, inr, eq-eqb, ne_eqb, eqb-true}
+use Rattle.std.proofs.Common.{◌≡◌, ℕ, ◌<◌, Bool, true, false, cond, eqb, ◌⊎◌, List, [], ◌∷◌, length, drop, Err, Result, sym, refl, ap, subst, ◌∙◌, inl, inr, eq-eqb, ne_eqb, eqb-true}
 use Rattle.std.proofs.lemmas.Bool.{both_ways}
 use Rattle.disk.specs.declared.Fault.{Fault}
 use Rattle.disk.specs.declared.Fault.TheVariants.{Dark, NoBlock}
-use Rattle.disk.specs.Meaning.{Block, Meaning, Sound, Same, Written, Torn, Passed, Lost, Barrier}
+use Rattle.disk.specs.Meaning.{Block, Meaning, Sound, Write, Written, Torn, Passed, Lost, Barrier}
 use Rattle.write_behind.specs.declared.held.Pending.{Pending}
-use Rattle.write_behind.specs.Behind.{overlaid, Held, behind, Replaced, Added}
-use Rattle.write_behind.specs.Order.{Sent, StoppedAt, Drained, Cut, BehindBarrier}
+use Rattle.write_behind.specs.Behind.{overlaid, Held, Free, behind, Replaced, Added}
+use Rattle.write_behind.specs.Order.{Sent, StoppedAt, Send, Drained, Drain, Cut, BehindWrite, BehindBarrier}
 use Rattle.write_behind.proofs.Helds.{overlaid_push, held_push, overlaid_here, overlaid_others, held_set}
 use Rattle.write_behind.proofs.Drains.{sent_flushed, stopped_one, drained_flushed, cut_stopped}
 
@@ -39,9 +39,6 @@ behind_sound m ps sound = record {
   found = λ lit k less. elim (overlaid_held k (m.present k) ps) [ inl below ↦ inl (rw below (sound.found lit k less)) | inr held ↦ inr held ];
   some = λ k less. let one = sound.some k less in (one.0, inl one.1);
 }
-
-pub same_refl : (m : Meaning) → Same m m
-same_refl m = record { size = refl; light = refl; contents = λ _ _. refl; gains = λ _ _ _ found. found; keeps = λ _ _ _ found. found }
 
 -- A write that is held back, on a lit disk that has the block.
 module _ (m : Meaning) (ps qs : List Pending) (b : ℕ) (x : Block) (lit : m.lit ≡ true) (within : b < m.blocks) where
@@ -115,6 +112,21 @@ module _ (m m' : Meaning) (ps : List Pending) (p : Pending) (rest : List Pending
         ];
       })
 
+-- The longest-held block p is on its way below, and that write is not done; r is what the layer answers then.
+module _ {D : Type 0} (means : D → Meaning) (d e : D) (ps qs : List Pending) (p : Pending) (b : ℕ) (x : Block) (lit : (means d).lit ≡ true) (within : b < (means d).blocks)
+    (is : ps ≡ p ∷ drop 1 ps) (free : Free b ps) (full : length ps ≡ 16) (same : qs ≡ ps) where
+  abbrev Unwritten : Result Unit Fault → Type 0
+  Unwritten r = Write (behind (means d) ps) b x r (behind (means e) qs) × BehindWrite means d ps b x r e qs × ((means e).blocks ≡ (means d).blocks)
+
+  unwritten : (y : Fault) → Send (means d) p (Err y) (means e) → Unwritten (Err y)
+  unwritten Dark stop =
+      let torn = torn_shifted (means d) (means e) ps p (drop 1 ps) b x lit within is qs same stop in
+      (inr torn, (same, inr (p, (free, is, full, stop))), torn.size)
+  unwritten NoBlock never = absurd never
+
+  pub send_undone : (r : Result Unit Fault) (y z : Fault) → r ≡ Err y → y ≡ z → Send (means d) p (Err z) (means e) → Unwritten r
+  send_undone r y z answer one stop = rw (answer, one) (unwritten z stop)
+
 -- A barrier: all that is held comes below, and then a barrier is passed there.
 module _ {D : Type 0} (means : D → Meaning) (d e : D) (ps : List Pending) (lit : (means d).lit ≡ true) where
   pub barrier_passed : (f : D) (qs : List Pending) → qs ≡ [] → Drained means d ps f → Passed (means f) (means e) → Passed (behind (means d) ps) (behind (means e) qs)
@@ -143,7 +155,7 @@ module _ {D : Type 0} (means : D → Meaning) (d e : D) (ps : List Pending) (lit
     gains = λ k y less found. elim found [ inl below ↦ gains k y less below | inr held ↦ inr held ];
   }
 
-  pub lost_in_drain : Cut means d ps e → Lost (behind (means d) ps) (behind (means e) ps)
+  lost_in_drain : Cut means d ps e → Lost (behind (means d) ps) (behind (means e) ps)
   lost_in_drain cut = let s = cut_stopped means d ps e lit cut in lost s.size s.dark s.gains
 
   lost_in_barrier : (f : D) → Drained means d ps f → Barrier (means f) (Err Dark) (means e) → Lost (behind (means d) ps) (behind (means e) ps)
@@ -154,15 +166,22 @@ module _ {D : Type 0} (means : D → Meaning) (d e : D) (ps : List Pending) (lit
         | inr l ↦ lost (l.size ∙ flushed.size) l.dark (λ k y less found. flushed.gains k y less (l.gains k y (rw flushed.size less) found))
       ]
 
-  -- The barrier below is not done; r is what the layer answers then.
+  -- The blocks are not all brought below, or the barrier there is not done; r is what the layer answers then.
   abbrev Undone : Result Unit Fault → Type 0
   Undone r = Barrier (behind (means d) ps) r (behind (means e) ps) × BehindBarrier means d ps r e ps × ((means e).blocks ≡ (means d).blocks)
 
-  undone : (f : D) (y : Fault) → Drained means d ps f → Barrier (means f) (Err y) (means e) → Undone (Err y)
-  undone f Dark drained barrier =
+  undrained : (y : Fault) → Drain means d ps (Err y) e → Undone (Err y)
+  undrained Dark cut = let l = lost_in_drain cut in (inr l, (refl, inr (inl cut)), l.size)
+  undrained NoBlock never = absurd never
+
+  pub drain_undone : (r : Result Unit Fault) (y z : Fault) (held : List Pending) → r ≡ Err y → y ≡ z → held ≡ ps → Drain means d held (Err z) e → Undone r
+  drain_undone r y z held answer same all cut = rw (answer, same) (undrained z (subst (λ hs. Drain means d hs (Err z) e) all cut))
+
+  unpassed : (f : D) (y : Fault) → Drained means d ps f → Barrier (means f) (Err y) (means e) → Undone (Err y)
+  unpassed f Dark drained barrier =
       let l = lost_in_barrier f drained barrier in
       (inr l, (refl, inr (inr (f, (drained, barrier)))), l.size)
-  undone f NoBlock drained never = absurd never
+  unpassed f NoBlock drained never = absurd never
 
   pub barrier_undone : (f : D) (r : Result Unit Fault) (y z : Fault) → r ≡ Err y → y ≡ z → Drained means d ps f → Barrier (means f) (Err z) (means e) → Undone r
-  barrier_undone f r y z is same drained barrier = rw (is, same) (undone f z drained barrier)
+  barrier_undone f r y z answer same drained barrier = rw (answer, same) (unpassed f z drained barrier)

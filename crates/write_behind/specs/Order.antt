@@ -1,6 +1,6 @@
 -- In which order held blocks come to the disk below, and what is held then.
 -- The disk below is d before a call and e after it; `means` gives the meaning of each.
-use Rattle.std.specs.Prelude.{◌≡◌, ℕ, ◌<◌, Bool, true, false, ◌⊎◌, List, [], ◌∷◌, length, take, drop, Ok, Err, Result, slice_index_or}
+use Rattle.std.specs.Prelude.{◌≡◌, ℕ, ◌<◌, true, false, ◌⊎◌, List, [], ◌∷◌, length, take, drop, Ok, Err, Result, slice_index_or}
 use Rattle.disk.specs.declared.Fault.{Fault}
 use Rattle.disk.specs.declared.Fault.TheVariants.{Dark, NoBlock}
 use Rattle.disk.specs.Meaning.{Block, Meaning, Write, Barrier}
@@ -15,10 +15,23 @@ Sent m p m' = Write m p.at p.content (Ok tt) m' ⊎ Write m p.at p.content (Err 
 abbrev pub StoppedAt : Meaning → Pending → Meaning → Type 0
 StoppedAt m p m' = Write m p.at p.content (Err Dark) m'
 
--- One write below: whether the disk is lit still.
-abbrev pub Send : Meaning → Pending → Bool → Meaning → Type 0
-Send m p true m' = Sent m p m'
-Send m p false m' = StoppedAt m p m'
+-- The answer of a disk, but done where the disk has no such block.
+abbrev pub passed_over : Result Unit Fault → Result Unit Fault
+passed_over (Ok done) = Ok done
+passed_over (Err Dark) = Err Dark
+passed_over (Err NoBlock) = Ok tt
+
+-- Whether the disk below has power.
+abbrev pub Power : Meaning → Result Unit Fault → Type 0
+Power m (Ok _) = m.lit ≡ true
+Power m (Err Dark) = m.lit ≡ false
+Power m (Err NoBlock) = ⊥
+
+-- One write below: done, or the disk is dark.
+abbrev pub Send : Meaning → Pending → Result Unit Fault → Meaning → Type 0
+Send m p (Ok _) m' = Sent m p m'
+Send m p (Err Dark) m' = StoppedAt m p m'
+Send m p (Err NoBlock) m' = ⊥
 
 -- All of ps were written below, one after the other, the first of them first.
 abbrev pub Drained : {D : Type 0} → (D → Meaning) → D → List Pending → D → Type 0
@@ -29,10 +42,11 @@ Drained {D} means d (p ∷ ps) e = (f : D) × (Sent (means d) p (means f) × Dra
 abbrev pub Cut : {D : Type 0} → (D → Meaning) → D → List Pending → D → Type 0
 Cut {D} means d ps e = (i : ℕ) × ((p : Pending) × ((f : D) × ((i < length ps) × (p ≡ slice_index_or ps i p) × Drained means d (take i ps) f × StoppedAt (means f) p (means e))))
 
--- The held blocks brought to the disk below: whether it is lit still.
-abbrev pub Drain : {D : Type 0} → (D → Meaning) → D → List Pending → Bool → D → Type 0
-Drain means d ps true e = Drained means d ps e
-Drain means d ps false e = Cut means d ps e
+-- The held blocks brought to the disk below: done, or the disk is dark.
+abbrev pub Drain : {D : Type 0} → (D → Meaning) → D → List Pending → Result Unit Fault → D → Type 0
+Drain means d ps (Ok _) e = Drained means d ps e
+Drain means d ps (Err Dark) e = Cut means d ps e
+Drain means d ps (Err NoBlock) e = ⊥
 
 -- What a write of x to block b leaves below, and what it leaves held: qs after ps.
 -- A held block is replaced in its place; another is added, and where sixteen are held the longest-held is written below first.

@@ -4,51 +4,49 @@
 ghost use Rattle.disk.specs.Meaning.{Barrier, Restarted, Write};
 ghost use Rattle.std.specs.Prelude.{◌≡◌, [], MatchResult};
 ghost use Rattle.write_behind.specs.Behind.{Orderly, behind};
-ghost use Rattle.write_behind.specs.Order.{BehindBarrier, BehindWrite, Drain, Send};
+ghost use Rattle.write_behind.specs.Order.{BehindBarrier, BehindWrite, Drain, Power, Send, passed_over};
 
 mod held;
-mod holding;
 mod queue;
 
 use disk::{Disk, Fault};
 pub use held::Pending;
-use holding::MOST_HELD;
 use queue::Queue;
 use std::alloc::{AllocFailed, Global};
 
-// Writes one held block below, and says whether there is power still.
-fn send<D: Disk>(below: &mut D, p: &Pending) -> bool
-    ensures { Send (D.Disk.means below.old) p.now result (D.Disk.means below.new) }
+// The answer of a disk, but done where the disk has no such block.
+fn pass_over(answer: Result<(), Fault>) -> Result<(), Fault>
+    ensures { result ≡ passed_over answer }
 {
-    match below.write(p.at, &p.content) {
-        Ok(_) => true,
-        Err(Fault::NoBlock) => true,
-        Err(Fault::Dark) => false,
+    match answer {
+        Err(Fault::NoBlock) => Ok(()),
+        answer => answer,
     }
 }
 
-// Writes held blocks below, the first of them first, and says whether there is power still.
-fn drain<D: Disk>(below: &mut D, held: &[Pending]) -> bool
+// Writes one held block below, and refuses where there is no power. A block that the disk has not is passed over: none such is ever held.
+fn send<D: Disk>(below: &mut D, p: &Pending) -> Result<(), Fault>
+    ensures { Send (D.Disk.means below.old) p.now result (D.Disk.means below.new) }
+{
+    pass_over(below.write(p.at, &p.content))
+}
+
+// Writes held blocks below, the first of them first, until there is no power.
+#[tactic(auto, using(crate::proofs::Drains::drained_next, crate::proofs::Drains::drain_cut))]
+fn drain<D: Disk>(below: &mut D, held: &[Pending]) -> Result<(), Fault>
     ensures { Drain D.Disk.means below.old held.now result below.new }
 {
     for p in held {
-        if !send(below, p) {
-            return false;
-        }
+        send(below, p)?;
     }
-    true
+    Ok(())
 }
 
-// Whether the disk has power: a dark one refuses any read as dark.
-fn is_lit<D: Disk>(below: &D) -> bool
-    ensures { result ≡ (D.Disk.means below.now).lit }
+// Refuses where the disk has no power: a dark one refuses any read as dark.
+fn power<D: Disk>(below: &D) -> Result<(), Fault>
+    ensures { Power (D.Disk.means below.now) result }
 {
-    let mut block = [0; 256];
-    match below.read(0, &mut block) {
-        Ok(_) => true,
-        Err(Fault::NoBlock) => true,
-        Err(Fault::Dark) => false,
-    }
+    pass_over(below.read(0, &mut [0; 256]))
 }
 
 // A disk over another, with blocks that are held back: they come to the disk below at a barrier, or one by one where
@@ -62,13 +60,10 @@ pub struct WriteBehind<D: Disk> {
 impl<D: Disk> WriteBehind<D> {
     // A layer over `below` that holds nothing. If there is no memory for sixteen blocks, gives the disk back.
     pub fn new(heap: Global, below: D) -> Result<WriteBehind<D>, AllocFailed<D>>
-        ensures { MatchResult result (λ w. (w.below ≡ below) × (w.held.items.items ≡ [])) (λ e. e.value ≡ below) }
+        ensures { MatchResult result (λ w. (w.below ≡ below) × (w.held ≡ [])) (λ e. e.value ≡ below) }
     {
-        match Vec::with_capacity(heap, MOST_HELD) {
-            Ok(items) => Ok(WriteBehind {
-                below,
-                held: Queue { items },
-            }),
+        match Queue::new(heap) {
+            Ok(held) => Ok(WriteBehind { below, held }),
             Err(_) => Err(AllocFailed { value: below }),
         }
     }
@@ -82,9 +77,9 @@ impl<D: Disk> WriteBehind<D> {
 
     // The blocks that are held, the longest-held first.
     pub fn held(&self) -> &[Pending]
-        ensures { result.now ≡ self.now.held.items.items }
+        ensures { result.now ≡ self.now.held }
     {
-        self.held.items.as_slice()
+        self.held.as_slice()
     }
 
     // Gives the disk below back, as it is; what is held is let go.
@@ -98,7 +93,7 @@ impl<D: Disk> WriteBehind<D> {
 }
 
 impl<D: Disk> Disk for WriteBehind<D> {
-    ghost means = { λ s. behind (D.Disk.means s.below) s.held.items.items };
+    ghost means = { λ s. behind (D.Disk.means s.below) s.held };
 
     fn size(&self) -> u64 {
         self.below.size()
@@ -106,57 +101,54 @@ impl<D: Disk> Disk for WriteBehind<D> {
 
     fn read(&self, b: u64, into: &mut [u8; 256]) -> Result<(), Fault> {
         self.below.read(b, into)?;
-        holding::overlay(self.held.items.as_slice(), b, into);
+        self.held.overlay(b, into);
         Ok(())
     }
 
     fn write(&mut self, b: u64, from: &[u8; 256]) -> Result<(), Fault>
-        ensures meaning { Write (behind (D.Disk.means self.old.below) self.old.held.items.items) b from.now result (behind (D.Disk.means self.new.below) self.new.held.items.items) }
-        ensures order { BehindWrite D.Disk.means self.old.below self.old.held.items.items b from.now result self.new.below self.new.held.items.items }
-        ensures orderly { Orderly (D.Disk.means self.old.below).blocks self.old.held.items.items → Orderly (D.Disk.means self.new.below).blocks self.new.held.items.items }
+        ensures meaning { Write (behind (D.Disk.means self.old.below) self.old.held) b from.now result (behind (D.Disk.means self.new.below) self.new.held) }
+        ensures order { BehindWrite D.Disk.means self.old.below self.old.held b from.now result self.new.below self.new.held }
+        ensures orderly { Orderly (D.Disk.means self.old.below).blocks self.old.held → Orderly (D.Disk.means self.new.below).blocks self.new.held }
     {
-        let mut scratch = [0; 256];
-        self.below.read(b, &mut scratch)?;
-        if holding::replace(&mut self.held, b, from) {
+        self.below.read(b, &mut [0; 256])?;
+        let newest = Pending {
+            at: b,
+            content: *from,
+        };
+        if self.held.replace(newest) {
             return Ok(());
         }
-        match holding::overflow(&self.held) {
+        match self.held.overflow() {
             None => {
-                holding::hold(&mut self.held, b, from);
+                self.held.hold(newest);
                 Ok(())
             }
             Some(oldest) => {
-                if !send(&mut self.below, &oldest) {
-                    return Err(Fault::Dark);
-                }
-                holding::shift(&mut self.held, b, from);
+                send(&mut self.below, &oldest)?;
+                self.held.shift(newest);
                 Ok(())
             }
         }
     }
 
     fn barrier(&mut self) -> Result<(), Fault>
-        ensures meaning { Barrier (behind (D.Disk.means self.old.below) self.old.held.items.items) result (behind (D.Disk.means self.new.below) self.new.held.items.items) }
-        ensures order { BehindBarrier D.Disk.means self.old.below self.old.held.items.items result self.new.below self.new.held.items.items }
-        ensures orderly { Orderly (D.Disk.means self.old.below).blocks self.old.held.items.items → Orderly (D.Disk.means self.new.below).blocks self.new.held.items.items }
+        ensures meaning { Barrier (behind (D.Disk.means self.old.below) self.old.held) result (behind (D.Disk.means self.new.below) self.new.held) }
+        ensures order { BehindBarrier D.Disk.means self.old.below self.old.held result self.new.below self.new.held }
+        ensures orderly { Orderly (D.Disk.means self.old.below).blocks self.old.held → Orderly (D.Disk.means self.new.below).blocks self.new.held }
     {
-        if !is_lit(&self.below) {
-            return Err(Fault::Dark);
-        }
-        if !drain(&mut self.below, self.held.items.as_slice()) {
-            return Err(Fault::Dark);
-        }
+        power(&self.below)?;
+        drain(&mut self.below, self.held.as_slice())?;
         self.below.barrier()?;
-        holding::forget(&mut self.held);
+        self.held.clear();
         Ok(())
     }
 
     fn restart(&mut self)
-        ensures meaning { Restarted (behind (D.Disk.means self.old.below) self.old.held.items.items) (behind (D.Disk.means self.new.below) self.new.held.items.items) }
+        ensures meaning { Restarted (behind (D.Disk.means self.old.below) self.old.held) (behind (D.Disk.means self.new.below) self.new.held) }
         ensures below { Restarted (D.Disk.means self.old.below) (D.Disk.means self.new.below) }
-        ensures none { self.new.held.items.items ≡ [] }
+        ensures none { self.new.held ≡ [] }
     {
-        holding::forget(&mut self.held);
+        self.held.clear();
         self.below.restart();
     }
 }

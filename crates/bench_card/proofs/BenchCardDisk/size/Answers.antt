@@ -1,6 +1,5 @@
-use Rattle.std.proofs.Common.{arith}
 use Rattle.bench_card.proofs.Cards.{bench_sound}
 use Rattle.bench_card.proofs.BenchCardDisk.size.Goals as goal
 
-pub returns : goal.returns
-returns c = record { value = omega arith; sound = bench_sound c.args.self.now.bytes.now _ }
+pub returns-clause-sound : goal.returns-clause-sound
+returns-clause-sound c = bench_sound c.args.self.now.bytes.now _

@@ -1,10 +1,7 @@
 use Rattle.std.proofs.Common.{sym}
-use Rattle.bench_card.proofs.Copies.{reverted_none, reverted_kept, reverted_taken, reverted_all}
+use Rattle.bench_card.proofs.Copies.{reverted_kept, reverted_taken}
 use Rattle.bench_card.proofs.blocks.revert.Goals as goal
 use Rattle.bench_card.proofs.blocks.revert.Goals.{then-not-is_kept, else-not-is_kept}
-
-pub loop-b-init : goal.loop-b-init
-loop-b-init c = reverted_none _ _ _
 
 pub loop-b-preserved : goal.loop-b-preserved
 loop-b-preserved c =
@@ -13,6 +10,3 @@ loop-b-preserved c =
       | then-not-is_kept w ↦ rw w.row-is (rw w.copy_block.ensures (reverted_taken _ _ _ _ _ c.requires less c.loop-b.invariant (sym w.if-not-is_kept.ensures)))
       | else-not-is_kept w ↦ rw w.row-is (reverted_kept _ _ _ _ _ c.requires less c.loop-b.invariant (sym w.if-not-is_kept.ensures))
     ]
-
-pub returns : goal.returns
-returns c = reverted_all _ _ _ _ _ c.loop-b-test.false c.loop-b.auto.b-end c.loop-b.invariant
