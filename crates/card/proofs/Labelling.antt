@@ -1,5 +1,7 @@
 -- A block is the label for at most one half: the one that its fields name.
-use Rattle.std.proofs.Common.{◌≡◌, ℕ, List, sym, ◌∙◌, subst}
+use Rattle.std.proofs.Common.{◌≡◌, ℕ, Bool, true, false, List, Some, Option, Decides, MatchOption, sym, refl, ap, ◌∙◌, subst}
+use borrow.Author.Tests.{clash}
+use Rattle.std.specs.Bool.{then_some}
 use Rattle.card.specs.Fields.{began_with_field, card_size_field, first_number_field, get, half_field, label_mark, mark_field, read}
 use Rattle.card.specs.Label.{Half, InRange, Labels}
 use Rattle.card.specs.View.{half_of}
@@ -31,3 +33,15 @@ module _
     first_number = (first ∙ labelled.first) i;
     first_block = (start ∙ labelled.start) i;
   }
+
+  -- The label, where its fields are in range.
+  module _ (marked : (get mark_field block ≡ label_mark) × (read card_size_field block ≡ n)) where
+    pub label_cases : (b : Bool) → Decides b (InRange (half_of l)) → (r : Option Label) → r ≡ then_some b l
+        → MatchOption r ((h : Half) → Labels n block h → ⊥) (λ m. Labels n block (half_of m))
+    label_cases true ranged r is = rw is (labels marked (ranged.0 refl))
+    label_cases false ranged r is = rw is (λ h labelled. clash (ranged.1 (in_range h labelled)))
+
+    pub label_back : (b : Bool) → Decides b (InRange (half_of l)) → (r : Option Label) → r ≡ then_some b l
+        → (m : Label) → Labels n block (half_of m) → r ≡ Some m
+    label_back true ranged r is m labelled = is ∙ ap Some (same_label m labelled)
+    label_back false ranged r is m labelled = absurd (clash (ranged.1 (in_range (half_of m) labelled)))

@@ -1,3 +1,4 @@
+pub mod KindBytes
 pub mod Labelling
 pub mod Marking
 pub mod Numbers

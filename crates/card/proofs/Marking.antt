@@ -10,7 +10,7 @@ use Rattle.records.specs.declared.records.Entry.TheVariants.{Register, Commit, S
 use Rattle.card.specs.Fields.{Field, Zero, committed_field, field, first_block_field, generation_field, get, hash_field, kind_field, name_field, name_length_field, profile_field, read, reference_count_field, reference_field, size_field}
 use Rattle.card.specs.Entries.{Clean, Says}
 use Rattle.card.specs.Written.{Wrote}
-use Rattle.card.proofs.Writes.{as_wide, field_below, one_byte, read_below, zero_below, zero_less, zero_past}
+use Rattle.card.proofs.Writes.{as_wide, field_below, read_below, zero_below, zero_less, zero_past}
 
 module _ (b c h : List ℕ) (p k : ℕ) (whole : length h ≡ 20) (wrote : Wrote (field 6 (length h)) h b c) where
   pub commit_says : read kind_field b ≡ 2 → read profile_field b ≡ p → read generation_field b ≡ k → Says c (commit p k h)
@@ -26,12 +26,6 @@ module _ (b c h : List ℕ) (p k : ℕ) (whole : length h ≡ 20) (wrote : Wrote
       zero_past b c 26 240 6 (6 + length h) (omega arith) wrote.kept (zero_less b 6 256 26 240 (omega arith) (omega arith) zeros)
 
 module _ (blank b c h : List ℕ) (whole : length h ≡ 20) (kind : Wrote (field 0 1) (5 ∷ []) blank b) (hash : Wrote (field 1 (length h)) h b c) where
-  pub remove_says : Says c (remove h)
-  remove_says = (
-    read_below kind_field b c 1 (omega arith) hash.kept.below ∙ one_byte kind_field b 5 kind.here,
-    as_wide 1 c h 20 whole hash.here,
-  )
-
   pub remove_clean : Zero 0 256 blank → Clean c (remove h)
   remove_clean zeros =
       zero_past b c 21 240 1 (1 + length h) (omega arith) hash.kept

@@ -1,13 +1,17 @@
 -- What is read from `rest`, a block without its first byte.
-use Rattle.std.proofs.Common.{◌≡◌, ℕ, ◌+◌, ◌*◌, ◌<◌, ◌≤◌, List, [], ◌∷◌, ◌++◌, map, length, get_or, take, drop, Some, None, Option, sym, ap, ◌∙◌, subst, arith, below_more, MatchOption}
-use Rattle.std.proofs.lemmas.List.{drop-drop, drop_more, get_or_append_left, get_or_push, length-drop, length-map, length_push, length-take-le, map_push, take-take}
+use Rattle.std.proofs.Common.{◌≡◌, ℕ, zero, suc, ◌+◌, ◌-◌, ◌*◌, ◌/◌, ◌<◌, ◌≤◌, List, [], length, refl, get_or, take, drop, Some, None, Option, Ok, Err, Result, false, is_ok, sym, ap, ◌∙◌, subst, arith, MatchOption}
+use Rattle.std.specs.List.{slice_range}
+use Rattle.std.specs.Simd.{first_chunks}
+use Rattle.std.proofs.lemmas.List.{drop-drop, drop-take, get_or-take, take_all, drop_more, length-drop, length-take-le, take-take}
 use Rattle.naming.specs.Digits.{value}
 use Rattle.naming.specs.Name.{Lawful}
 use Rattle.naming.specs.Texts.{name_text}
 use Rattle.naming.specs.declared.hash.Hash.{Hash}
 use Rattle.naming.specs.declared.name.Name.{Name}
-use Rattle.records.specs.View.{bytes_of}
-use Rattle.card.specs.Fields.{field, get, name_field, read}
+use Rattle.records.specs.Push.{Pushed}
+use Rattle.records.specs.declared.full.Full.{Full}
+use Rattle.std.proofs.lemmas.Bool.{false≢true}
+use Rattle.card.specs.Fields.{field, get, name_field, read, reference_field}
 use Rattle.card.specs.View.{SaysName, SaysReferences}
 
 -- A byte as a field.
@@ -45,35 +49,49 @@ module _ (block rest : List ℕ) (is : drop 1 block ≡ rest) where
     name_cases None unlawful = λ name says lawful. unlawful (subst Lawful (name_is name says) lawful)
     name_cases (Some made) (lawful, is-text) = subst (SaysName block) (sym is-text) name_said
 
-  -- A length over 24 is that of no lawful name.
-  pub name_too_long : length rest ≡ 255 → 24 < get_or rest 20 0 → (name : List ℕ) → SaysName block name → Lawful name → ⊥
-  name_too_long whole long name says (some, most, each, dot) = absurd (omega (arith, says.long, byte_after_kind 20 (omega arith)))
+-- A chunk of 20 bytes.
+chunk_at : (m k : ℕ) (xs : List ℕ) → k < m → get_or (first_chunks 20 m xs) k [] ≡ take 20 (drop (20 * k) xs)
+chunk_at zero k xs less = absurd (omega arith)
+chunk_at (suc m) zero xs less = refl
+chunk_at (suc m) (suc k) xs less =
+    let place : 20 + 20 * k ≡ 20 * suc k = omega arith in
+    chunk_at m k (drop 20 xs) (omega arith) ∙ ap (take 20) (drop-drop (20 * k) 20 xs) ∙ ap (λ n. take 20 (drop n xs)) place
 
--- The first k references are gathered.
-pub record Gathered (rest : List ℕ) (hashes : List Hash) (k : ℕ) : Type 0 where
-  pub count : length hashes ≡ k
-  pub each : (j : ℕ) → j < k → get (field (54 + 20 * j) 20) rest ≡ get_or (map bytes_of hashes) j []
+-- The references: `items` are the chunks that the code takes, and `refs` as many of them as it has read.
+module _ (block rest : List ℕ) (is : drop 1 block ≡ rest) (whole : length rest ≡ 255) where
+  abbrev places : List ℕ
+  places = take 201 (drop 54 rest)
 
-pub gathered_more : (rest : List ℕ) (hashes more : List Hash) (h : Hash) (k : ℕ) → Gathered rest hashes k → get (field (54 + 20 * k) 20) rest ≡ h.bytes
-    → more ≡ hashes ++ (h ∷ []) → Gathered rest more (k + 1)
-gathered_more rest hashes more h k so_far is longer =
-    let long : length (map bytes_of hashes) ≡ k = length-map hashes bytes_of ∙ so_far.count in
-    let last : map bytes_of more ≡ map bytes_of hashes ++ (h.bytes ∷ []) = ap (map bytes_of) longer ∙ map_push bytes_of hashes h in
-    record {
-      count = ap length longer ∙ length_push hashes h ∙ ap (λ n. n + 1) so_far.count;
-      each =
-          below_more (λ j. get (field (54 + 20 * j) 20) rest ≡ get_or (map bytes_of more) j []) k
-          (λ j less. so_far.each j less ∙ sym (ap (λ l. get_or l j []) last ∙ get_or_append_left (map bytes_of hashes) (h.bytes ∷ []) [] j (omega arith)))
-          (is ∙ sym (ap (λ l. get_or l k []) last ∙ get_or_push (map bytes_of hashes) h.bytes [] k long));
-    }
+  room : length places ≡ 201
+  room = length-take-le 201 (drop 54 rest) (simp length-drop (omega arith))
 
-pub gathered_all : (block rest : List ℕ) (hashes : List Hash) (k : ℕ) → drop 1 block ≡ rest → length rest ≡ 255 → k ≡ get_or rest 53 0 → Gathered rest hashes k
-    → SaysReferences block (map bytes_of hashes)
-gathered_all block rest hashes k is whole end all =
-    let long : length (map bytes_of hashes) ≡ k = length-map hashes bytes_of ∙ all.count in
-    record {
-      count = sym (byte_after_kind block rest is 53 (omega arith)) ∙ sym end ∙ sym long;
-      each = λ j less.
-          let place : 1 + (54 + 20 * j) ≡ 55 + 20 * j = omega arith in
-          ap (λ at. get (field at 20) block) (sym place) ∙ sym (after_kind block rest is (54 + 20 * j) 20) ∙ all.each j (omega arith);
-    }
+  chunk_is : (k : ℕ) → k < 10 → take 20 (drop (20 * k) places) ≡ get (reference_field k) block
+  chunk_is k less =
+      let size : 20 * k + (201 - 20 * k) ≡ 201 = omega arith in
+      let place : 1 + (54 + 20 * k) ≡ 55 + 20 * k = omega arith in
+      ap (λ n. take 20 (drop (20 * k) (take n (drop 54 rest)))) (sym size)
+      ∙ ap (take 20) (drop-take (20 * k) (201 - 20 * k) (drop 54 rest)) ∙ take-take 20 (201 - 20 * k) (drop (20 * k) (drop 54 rest)) (omega arith)
+      ∙ ap (take 20) (drop-drop (20 * k) 54 rest) ∙ after_kind block rest is (54 + 20 * k) 20 ∙ ap (λ at. get (field at 20) block) place
+
+  pub references_said : (refs items chunks : List (List ℕ)) (i : ℕ) → chunks ≡ first_chunks 20 (length places / 20) places
+      → items ≡ slice_range chunks 0 (get_or rest 53 0) → length items ≡ get_or rest 53 0 → get_or rest 53 0 ≤ length chunks → length chunks ≡ length places / 20
+      → length items ≤ i → refs ≡ take i items → SaysReferences block refs
+  references_said refs items chunks i chunked first many within most end so_far =
+      let n = get_or rest 53 0 in
+      let from_first : n - 0 ≡ n = omega arith in
+      let all : refs ≡ items = so_far ∙ take_all i items end in
+      let ten : length places / 20 ≡ 10 = ap (λ m. m / 20) room in
+      record {
+        count = sym (byte_after_kind block rest is 53 (omega arith)) ∙ sym many ∙ sym (ap length all);
+        each = λ k less.
+            let low : k < n = omega (arith, ap length all) in
+            let high : k < 10 = omega arith in
+            sym (chunk_is k high) ∙ sym (chunk_at 10 k places high) ∙ ap (λ m. get_or (first_chunks 20 m places) k []) (sym ten)
+            ∙ ap (λ l. get_or l k []) (sym chunked) ∙ sym (get_or-take n chunks k [] low) ∙ ap (λ l. get_or l k []) (sym (first ∙ ap (λ m. take m chunks) from_first))
+            ∙ ap (λ l. get_or l k []) (sym all);
+      }
+
+-- A hash that could not be pushed had eight before it.
+pub not_pushed : (before : List Hash) (h : Hash) (r : Result (Unit {0}) Full) (after : List Hash) → Pushed before h r after → is_ok r ≡ false → length before ≡ 8
+not_pushed before h (Ok x) after told refused = absurd (false≢true (sym refused))
+not_pushed before h (Err e) after told refused = told.0

@@ -1,19 +1,15 @@
 -- The hashes of references, written one after another.
-use Rattle.std.proofs.Common.{◌≡◌, ℕ, ◌+◌, ◌*◌, ◌<◌, List, [], map, length, get_or, drop, sym, refl, ◌∙◌, subst, arith, below_more}
-use Rattle.std.proofs.lemmas.List.{length-map}
+use Rattle.std.proofs.Common.{◌≡◌, ℕ, ◌+◌, ◌*◌, ◌<◌, List, [], map, length, get_or, drop, ◌∙◌, subst, arith, below_more}
 use Rattle.naming.specs.declared.hash.Hash.{Hash}
 use Rattle.records.specs.View.{bytes_of}
 use Rattle.card.specs.Fields.{field, get, reference_field}
-use Rattle.card.specs.Written.{Kept, Wrote, WroteHashes}
+use Rattle.card.specs.Written.{Kept, Wrote}
 use Rattle.card.proofs.Writes.{as_wide, below_both, field_below, past_both}
 
 -- The first n hashes are written, and nothing else.
 pub record Referring (hashes : List Hash) (before : List ℕ) (n : ℕ) (block : List ℕ) : Type 0 where
   pub here : (k : ℕ) → k < n → get (reference_field k) block ≡ get_or (map bytes_of hashes) k []
   pub kept : Kept 55 (55 + 20 * n) before block
-
-pub referring_none : (hashes : List Hash) (before : List ℕ) → Referring hashes before 0 before
-referring_none hashes before = record { here = λ k less. absurd (omega arith); kept = record { below = refl; past = refl } }
 
 pub referring_more : (hashes : List Hash) (before b c h : List ℕ) (n : ℕ) → length h ≡ 20 → h ≡ get_or (map bytes_of hashes) n []
     → Referring hashes before n b → Wrote (field (55 + 20 * n) (length h)) h b c → Referring hashes before (n + 1) c
@@ -32,9 +28,3 @@ referring_more hashes before b c h n long is so_far wrote = record {
   where
     sum : (w : ℕ) → w ≡ 20 → 55 + 20 * n + w ≡ 55 + 20 * (n + 1)
     sum w wide = omega arith
-
-pub referring_all : (hashes : List Hash) (before after : List ℕ) (n : ℕ) → n ≡ length hashes → Referring hashes before n after
-    → WroteHashes (map bytes_of hashes) before after
-referring_all hashes before after n end all =
-    let count : n ≡ length (map bytes_of hashes) = end ∙ sym (length-map hashes bytes_of) in
-    record { here = λ k less. all.here k (omega arith); kept = subst (λ m. Kept 55 (55 + 20 * m) before after) count all.kept }

@@ -1,8 +1,7 @@
 -- A block says at most one entry, and which entries a decoder has to read.
-use Rattle.std.proofs.Common.{◌≡◌, ℕ, cond, eqb, List, [], map, length, take, Some, None, Option, sym, refl, ap, ◌∙◌, ap₂, arith, MatchOption}
+use Rattle.std.proofs.Common.{◌≡◌, ℕ, cond, eqb, List, [], map, length, take, Some, None, Option, sym, refl, ap, ◌∙◌, ap₂, MatchOption}
 use Rattle.std.proofs.lemmas.List.FromFn.{fill_by_all}
 use Rattle.std.specs.List.{range_with_len}
-use Rattle.model.specs.Fits.{Fits}
 use Rattle.model.specs.Plain as plain
 use Rattle.model.specs.Plain.{register, commit, switch, forget, remove}
 use Rattle.records.specs.View.{entry_of}
@@ -10,7 +9,7 @@ use Rattle.records.specs.declared.records.Entry.{Entry}
 use Rattle.records.specs.declared.records.Entry.TheVariants.{Register, Commit, Switch, Forget, Remove}
 use Rattle.card.specs.Fields.{committed_field, first_block_field, generation_field, get, hash_field, kind_field, name_field, name_length_field, profile_field, read, reference_count_field, reference_field, size_field}
 use Rattle.card.specs.Entries.{Says, SaysPath}
-use Rattle.card.specs.View.{Decodes, Readable, ReadablePath}
+use Rattle.card.specs.View.{Decodes, Readable}
 use Rattle.card.proofs.Marking.{few_entry}
 
 module _ (block : List ℕ) where
@@ -52,23 +51,7 @@ module _ (block : List ℕ) where
   pub says_once : (e f : plain.Entry) → Says block e → Says block f → e ≡ f
   says_once e f one other = sym (says_is e one) ∙ says_is f other
 
-  -- A block that says no readable path registers none.
-  pub no_path : read kind_field block ≡ 1 → ((p : plain.Path) → SaysPath block p → ReadablePath p → ⊥)
-      → (e : plain.Entry) → Says block e → Readable e → ⊥
-  no_path kind none (register p) (_, says) readable = none p says readable
-  no_path kind none (commit p k h) (other, _, _, _) readable = absurd (omega (arith, kind, other))
-  no_path kind none (switch p k) (other, _, _) readable = absurd (omega (arith, kind, other))
-  no_path kind none (forget p k) (other, _, _) readable = absurd (omega (arith, kind, other))
-  no_path kind none (remove h) (other, _) readable = absurd (omega (arith, kind, other))
-
--- An entry that fits a catalogue, and every value of the type, is readable.
-pub fits_readable : (e : plain.Entry) (n : ℕ) (cat : plain.Catalogue) → Fits n cat e → Readable e
-fits_readable (register p) n cat fits = record { lawful = fits.lawful; few = fits.few }
-fits_readable (commit p k h) n cat fits = tt
-fits_readable (switch p k) n cat fits = tt
-fits_readable (forget p k) n cat fits = tt
-fits_readable (remove h) n cat fits = tt
-
+-- Every value of the type is readable.
 pub entry_readable : (e : Entry) → Readable (entry_of e)
 entry_readable (Register p) = record { lawful = p.name.lawful; few = few_entry (Register p) }
 entry_readable (Commit p k h) = tt
@@ -77,11 +60,6 @@ entry_readable (Forget p k) = tt
 entry_readable (Remove h) = tt
 
 -- What follows from what is decoded.
-pub decoded_unfit : (block : List ℕ) (r : Option Entry) → Decodes block r → r ≡ None
-    → (e : plain.Entry) → Says block e → (n : ℕ) (cat : plain.Catalogue) → Fits n cat e → ⊥
-decoded_unfit block None unread none e says n cat fits = unread e says (fits_readable e n cat fits)
-decoded_unfit block (Some f) read none e says n cat fits = let z : ◌≡◌ {A = ℕ} 0 1 = cc in absurd (omega arith)
-
 pub decoded_back : (block : List ℕ) (r : Option Entry) → Decodes block r → (e : Entry) → Says block (entry_of e)
     → MatchOption r ⊥ (λ f. entry_of f ≡ entry_of e)
 decoded_back block None unread e says = unread (entry_of e) says (entry_readable e)

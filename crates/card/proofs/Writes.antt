@@ -1,7 +1,7 @@
 -- A write to a place of a block: what stands there after it, and what is as it was.
-use Rattle.std.proofs.Common.{◌≡◌, ℕ, ◌+◌, ◌-◌, ◌<◌, ◌≤◌, List, [], ◌∷◌, ◌++◌, length, get_or, take, drop, set, replicate, sym, refl, ap, ◌∙◌, ap₂, arith}
+use Rattle.std.proofs.Common.{◌≡◌, ℕ, ◌+◌, ◌-◌, ◌<◌, ◌≤◌, List, [], ◌∷◌, length, get_or, take, drop, replicate, sym, refl, ap, ◌∙◌, arith}
 use borrow.Rule.Slice.PartMut.{put_mid}
-use Rattle.std.proofs.lemmas.List.{drop-drop, drop_more, drop-take, get_or-drop, get_or-take, get_or-replicate, length-drop, take_all, take_more, take_more_set, take-take}
+use Rattle.std.proofs.lemmas.List.{drop-drop, drop_more, drop-take, get_or-drop, get_or-take, get_or-replicate, take-take}
 use Rattle.std.proofs.lemmas.Slice.{between-put_mid, take-put_mid_below, drop-put_mid}
 use Rattle.naming.specs.Digits.{value}
 use Rattle.card.specs.Fields.{Field, field, get, read, Zero}
@@ -20,16 +20,6 @@ module _ (at w : ℕ) (xs ys bs : List ℕ) (is : ys ≡ bs) (wide : w ≡ lengt
     below = take-put_mid_below at w xs ys at (omega arith) (omega arith);
     past = drop-put_mid at w xs ys (at + length bs) (omega arith) (omega arith) (ap length is ∙ sym wide);
   }
-
--- One more byte copied from a place on, and all of them.
-pub copied_more : (xs bs : List ℕ) (at k : ℕ) → k < length bs → at + length bs ≤ length xs → take k bs ≡ take k (drop at xs)
-    → take (k + 1) (set bs k (get_or xs (at + k) 0)) ≡ take (k + 1) (drop at xs)
-copied_more xs bs at k less within so_far =
-    take_more_set bs k (get_or xs (at + k) 0) less ∙ ap₂ (λ t b. t ++ (b ∷ [])) so_far (sym (get_or-drop at xs k 0))
-    ∙ sym (take_more (drop at xs) k 0 (simp length-drop (omega arith)))
-
-pub copied_all : (xs bs : List ℕ) (at k n : ℕ) → k ≡ n → length bs ≡ n → take k bs ≡ take k (drop at xs) → bs ≡ get (field at n) xs
-copied_all xs bs at k n end long so_far = sym (take_all k bs (omega arith)) ∙ so_far ∙ ap (λ m. take m (drop at xs)) end
 
 -- What stands below a place is as it was through two writes.
 pub below_both : (b c d : List ℕ) (m n : ℕ) → m ≤ n → take m c ≡ take m b → take n d ≡ take n c → take m d ≡ take m b

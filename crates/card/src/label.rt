@@ -4,12 +4,13 @@ ghost use Rattle.card.specs.Label.{Half, InRange, Labels};
 ghost use Rattle.card.specs.View.{LabelFields, half_of};
 ghost use Rattle.std.specs.Prelude.{◌≡◌, Some, Decides, MatchOption};
 
-use crate::bytes::{put_u32, u32_at, u64_at};
+use crate::bytes::{bytes_at, put};
 use crate::places;
 use crate::trailer::{put_trailer, read_ending};
 
-// The half of the journal that is in use: how many entries began it, the number of its first entry, and its first block.
-#[derive(Clone, Copy)]
+// The half of the journal that is in use: how many entries began it, the number of its first entry, and its first block. The fields are numbers as a card
+// has them: a damaged label may have any.
+#[derive(Clone, Copy, PartialEq, Eq, Debug)]
 pub struct Label {
     pub count: u32,
     pub first_number: u64,
@@ -22,9 +23,8 @@ impl Label {
         ensures { Decides result (InRange (half_of self.now)) }
     {
         self.count <= 61
-            && self.first_number >= 1
-            && self.first_number <= 1 << 62
-            && (self.first_block == 1 || self.first_block == 65)
+            && (1..=1 << 62).contains(&self.first_number)
+            && matches!(self.first_block, 1 | 65)
     }
 }
 
@@ -35,8 +35,8 @@ pub fn encode_label(label: &Label, blocks: u32) -> [u8; 256]
     ensures clean { Zero 0 232 result }
 {
     let mut block = [0; 256];
-    put_u32(&mut block, places::CARD_SIZE, blocks);
-    put_u32(&mut block, places::BEGAN_WITH, label.count);
+    put(&mut block, places::CARD_SIZE, &blocks.to_le_bytes());
+    put(&mut block, places::BEGAN_WITH, &label.count.to_le_bytes());
     put_trailer(
         &mut block,
         label.first_number,
@@ -50,7 +50,8 @@ pub fn encode_label(label: &Label, blocks: u32) -> [u8; 256]
 fn is_label(block: &[u8; 256], blocks: u32) -> bool
     ensures { Decides result ((get mark_field block.now ≡ label_mark) × (read card_size_field block.now ≡ blocks)) }
 {
-    read_ending(block).mark == places::LABEL_MARK && u32_at(block, places::CARD_SIZE) == blocks
+    read_ending(block).mark == places::LABEL_MARK
+        && u32::from_le_bytes(bytes_at(block, places::CARD_SIZE)) == blocks
 }
 
 // What the label of a card of that many blocks names, or none where the block is no such label.
@@ -62,13 +63,9 @@ pub fn decode_label(block: &[u8; 256], blocks: u32) -> Option<Label>
         return None;
     }
     let label = Label {
-        count: u32_at(block, places::BEGAN_WITH),
-        first_number: u64_at(block, places::NUMBER),
+        count: u32::from_le_bytes(bytes_at(block, places::BEGAN_WITH)),
+        first_number: u64::from_le_bytes(bytes_at(block, places::NUMBER)),
         first_block: read_ending(block).back,
     };
-    if label.is_in_range() {
-        Some(label)
-    } else {
-        None
-    }
+    label.is_in_range().then_some(label)
 }

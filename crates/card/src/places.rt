@@ -1,4 +1,4 @@
-// Where the fields of a block begin, and the kinds of entries.
+// Where the fields of a block begin, and its marks.
 
 // Of every entry.
 pub(crate) const KIND: usize = 0;
@@ -37,17 +37,6 @@ pub(crate) const COMMITTED: usize = 6;
 pub(crate) const CARD_SIZE: usize = 232;
 
 pub(crate) const BEGAN_WITH: usize = 236;
-
-// The kinds.
-pub(crate) const REGISTER: u8 = 1;
-
-pub(crate) const COMMIT: u8 = 2;
-
-pub(crate) const SWITCH: u8 = 3;
-
-pub(crate) const FORGET: u8 = 4;
-
-pub(crate) const REMOVE: u8 = 5;
 
 // The marks.
 pub(crate) const ENTRY_MARK: [u8; 4] = *b"ENTR";

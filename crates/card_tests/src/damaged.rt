@@ -1,17 +1,13 @@
 // Damaged blocks: what is still read, and what is not.
 use crate::blade;
 use card::{Label, decode_entry, decode_label, encode_entry, encode_label};
-use std::process::Abort;
 use std::test::Fail;
 
 // Whether a blade's block is read with another byte at that place.
-fn reads(rt: &impl Abort, place: usize, byte: u8) -> Result<bool, Fail> {
-    assert!(rt; place < 256);
-    let Some(entry) = blade() else {
-        return Err(Fail::new("no entry"));
-    };
+fn reads(place: u8, byte: u8) -> Result<bool, Fail> {
+    let entry = blade().ok_or("no entry")?;
     let mut block = encode_entry(&entry, 1, 0);
-    block[place] = byte;
+    block[usize::from(place)] = byte;
     Ok(decode_entry(&block).is_some())
 }
 
@@ -28,7 +24,7 @@ fn labels(count: u32, first_number: u64, first_block: u32) -> bool {
 #[test]
 fn kinds(rt: HostRuntime) -> Result<(), Fail> {
     for kind in 0..=255 {
-        assert!(rt; reads(&rt, 0, kind)? == (kind >= 1 && kind <= 5));
+        assert!(rt; reads(0, kind)? == (1..=5).contains(&kind));
     }
     Ok(())
 }
@@ -53,8 +49,8 @@ fn names_and_references(rt: HostRuntime) -> Result<(), Fail> {
         (239, 255, true),
         (255, 0, true),
     ];
-    for (place, byte, read) in cases.iter() {
-        assert!(rt; reads(&rt, *place, *byte)? == *read);
+    for (place, byte, read) in cases {
+        assert!(rt; reads(place, byte)? == read);
     }
     Ok(())
 }

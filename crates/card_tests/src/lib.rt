@@ -15,10 +15,7 @@ pub fn blade() -> Option<Entry> {
         *b"\0\x01\x02\x03\x04\x05\x06\x07\x08\x09\x0a\x0b\x0c\x0d\x0e\x0f\x10\x11\x12\x13",
     );
     let name = Name::new(b"blade-1")?;
-    let mut refs = References::new();
-    if !refs.push(hash) {
-        return None;
-    }
+    let refs = References::from_slice(&[hash]).ok()?;
     Some(Entry::Register(PathRecord {
         hash,
         name,
@@ -30,10 +27,5 @@ pub fn blade() -> Option<Entry> {
 
 // Whether all of the bytes are zero.
 pub fn is_zero(bytes: &[u8]) -> bool {
-    for byte in bytes {
-        if *byte != 0 {
-            return false;
-        }
-    }
-    true
+    bytes.iter().all(|byte| *byte == 0)
 }

@@ -5,9 +5,7 @@ use std::test::Fail;
 
 #[test]
 fn registers_a_blade(rt: HostRuntime) -> Result<(), Fail> {
-    let Some(entry) = blade() else {
-        return Err(Fail::new("no entry"));
-    };
+    let entry = blade().ok_or("no entry")?;
     let block = encode_entry(&entry, 5, 4);
     assert!(rt;
         block[0..].starts_with(
@@ -24,9 +22,8 @@ fn registers_a_blade(rt: HostRuntime) -> Result<(), Fail> {
     );
     assert!(rt; is_zero(&block[75..240]));
     assert!(rt; block[240..].starts_with(b"\x05\0\0\0\0\0\0\0\x04\0\0\0ENTR"));
-    let Some(back) = decode_entry(&block) else {
-        return Err(Fail::new("not read"));
-    };
+    let back = decode_entry(&block).ok_or("not read")?;
+    assert!(rt; back == entry);
     assert!(rt; encode_entry(&back, 5, 4) == block);
     assert!(rt; counts(&block, 5, 4));
     assert!(rt; !counts(&block, 6, 4));
@@ -45,7 +42,7 @@ fn labels_the_second_half(rt: HostRuntime) -> Result<(), Fail> {
     assert!(rt; is_zero(&block[0..232]));
     assert!(rt; block[232..].starts_with(b"\0\x01\0\0\x03\0\0\0A\0\0\0\0\0\0\0A\0\0\0LABL"));
     let back = decode_label(&block, 256).ok_or("not read")?;
-    assert!(rt; back.count == 3 && back.first_number == 65 && back.first_block == 65);
+    assert!(rt; back == label);
     assert!(rt; decode_label(&block, 255).is_none());
     assert!(rt; !counts(&block, 65, 65));
     Ok(())

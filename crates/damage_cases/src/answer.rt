@@ -5,33 +5,21 @@ use recovery::{LoadError, load};
 use std::alloc::{AllocError, Global};
 use std::fmt;
 
-#[derive(Clone, Copy)]
+// What came of a load; a refusal is told by its number. A type of its own, and not the `Result` of the load, since a `Result` can have no `Display` of ours.
+#[derive(Clone, Copy, PartialEq, Eq, Debug)]
 pub(crate) enum Answer {
     Done { entries: u32, paths: usize },
     Refused(LoadError),
-}
-
-// The number of a refusal.
-fn number_of(error: LoadError) -> u8 {
-    match error {
-        LoadError::Dark => 1,
-        LoadError::WrongSize => 18,
-        LoadError::BadLabel => 19,
-        LoadError::BadEntry(_) => 20,
-    }
 }
 
 impl fmt::Display for Answer {
     fn fmt<W: fmt::Write>(&self, f: &mut fmt::Formatter<W>) -> fmt::Result {
         match *self {
             Answer::Done { entries, paths } => write!(f, "done, {entries} entries, {paths} paths"),
-            Answer::Refused(error) => {
-                let number = number_of(error);
-                match error {
-                    LoadError::BadEntry(block) => write!(f, "{number} at {block}"),
-                    _ => write!(f, "{number}"),
-                }
-            }
+            Answer::Refused(LoadError::Dark) => write!(f, "1"),
+            Answer::Refused(LoadError::WrongSize) => write!(f, "18"),
+            Answer::Refused(LoadError::BadLabel) => write!(f, "19"),
+            Answer::Refused(LoadError::BadEntry(block)) => write!(f, "20 at {block}"),
         }
     }
 }
@@ -39,13 +27,13 @@ impl fmt::Display for Answer {
 // Loads the disk into a catalogue.
 pub(crate) fn loaded<D: Disk>(heap: Global, disk: &D) -> Result<Answer, AllocError> {
     let mut catalogue = Catalogue::new(heap, 0)?;
-    match load(disk, &mut catalogue) {
-        Ok(place) => Ok(Answer::Done {
+    Ok(match load(disk, &mut catalogue) {
+        Ok(place) => Answer::Done {
             entries: place.used,
             paths: catalogue.paths().len(),
-        }),
-        Err(error) => Ok(Answer::Refused(error)),
-    }
+        },
+        Err(error) => Answer::Refused(error),
+    })
 }
 
 // Loads the card on these bytes.

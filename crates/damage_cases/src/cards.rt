@@ -1,6 +1,6 @@
 // The good cards.
 use crate::said::Said;
-use anyhow::anyhow;
+use anyhow::Context;
 use catalogue::Catalogue;
 use disk::Image;
 use journal::{Place, append_and_apply, format_and_clear};
@@ -47,10 +47,10 @@ const STORY: [Said; 12] = [
 
 // The entry in this place of the story: at its end, switches from one generation to the other.
 fn story_entry(place: u32) -> Said {
-    match STORY.get(place as usize) {
-        Some(said) => *said,
-        None => Said::Switch(0, place % 2 + 1),
-    }
+    STORY
+        .get(place as usize)
+        .copied()
+        .unwrap_or(Said::Switch(0, place % 2 + 1))
 }
 
 // The entry in this place of the crowd.
@@ -107,9 +107,7 @@ impl Card {
         let mut bytes = vec![in heap; 0; BLOCKS as usize * 256]?;
         let mut disk = Image::new(bytes.as_mut_slice());
         let mut catalogue = Catalogue::new(heap, BLOCKS)?;
-        let Ok(mut place) = format_and_clear(&mut disk, &mut catalogue) else {
-            return Err(anyhow!("no card"));
-        };
+        let mut place = format_and_clear(&mut disk, &mut catalogue).context("no card")?;
         for k in 0..self.appended() {
             enter(&mut disk, &mut catalogue, &mut place, &self.entry_at(k))?;
         }
@@ -124,11 +122,6 @@ fn enter(
     place: &mut Place,
     said: &Said,
 ) -> anyhow::Result<()> {
-    let Some(entry) = said.entry() else {
-        return Err(anyhow!("no entry"));
-    };
-    if append_and_apply(disk, catalogue, place, &entry).is_err() {
-        return Err(anyhow!("an entry does not fit"));
-    }
-    Ok(())
+    let entry = said.entry().context("no entry")?;
+    append_and_apply(disk, catalogue, place, &entry).context("an entry does not fit")
 }

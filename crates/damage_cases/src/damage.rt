@@ -1,6 +1,7 @@
 // What happens to a card.
 use crate::cards::BLOCKS;
 use crate::said::Said;
+use anyhow::Context;
 use card::{Label, encode_entry, encode_label};
 use disk::{read_block, write_block};
 
@@ -8,7 +9,7 @@ use disk::{read_block, write_block};
 const COUNT: u8 = 236;
 
 // A change of one block: of bytes from a place of it on, or of all of it.
-#[derive(Clone, Copy)]
+#[derive(Clone, Copy, PartialEq, Eq, Debug)]
 pub(crate) enum Damage {
     Nothing,
     // The place and the byte there.
@@ -28,15 +29,16 @@ pub(crate) enum Damage {
 
 // Puts the bytes from that place on.
 fn put(block: &mut [u8; 256], place: u8, bytes: &[u8]) {
-    for (slot, byte) in block.iter_mut().skip(place as usize).zip(bytes.iter()) {
-        *slot = *byte;
+    let first = usize::from(place);
+    if let Some(part) = block.get_mut(first..first + bytes.len()) {
+        part.copy_from_slice(bytes);
     }
 }
 
 // Makes all bytes from the first to the last place the same.
 fn fill(block: &mut [u8; 256], first: u8, last: u8, byte: u8) {
-    for place in first as usize..last as usize + 1 {
-        block[place] = byte;
+    if let Some(bytes) = block.get_mut(first as usize..=last as usize) {
+        bytes.fill(byte);
     }
 }
 
@@ -78,13 +80,17 @@ pub(crate) fn set_count(card: &mut [u8], count: u32) {
 }
 
 // Writes an entry that counts to this block of the card, but for the bytes that are given, each with its place.
-pub(crate) fn forge(card: &mut [u8], number: u32, said: &Said, bytes: &[(u8, u8)]) -> bool {
-    let Some(entry) = said.entry() else {
-        return false;
-    };
+pub(crate) fn forge(
+    card: &mut [u8],
+    number: u32,
+    said: &Said,
+    bytes: &[(u8, u8)],
+) -> anyhow::Result<()> {
+    let entry = said.entry().context("no entry")?;
     let mut block = encode_entry(&entry, u64::from(number), number.saturating_sub(1));
     for (place, byte) in bytes {
         block[*place as usize] = *byte;
     }
-    write_block(card, u64::from(number), &block).is_ok()
+    write_block(card, u64::from(number), &block)?;
+    Ok(())
 }

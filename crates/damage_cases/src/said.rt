@@ -3,7 +3,7 @@ use naming::{Hash, Name};
 use records::{Entry, PathRecord, References};
 
 // What an entry says, with a number for each hash.
-#[derive(Clone, Copy)]
+#[derive(Clone, Copy, PartialEq, Eq, Debug)]
 pub(crate) enum Said {
     // The hash, the size, the first block and the references of a path.
     Register(u16, u32, u32, &'static [u16]),
@@ -18,7 +18,8 @@ pub(crate) enum Said {
     Remove(u16),
 }
 
-// The hash of this number; hash order is the order of the numbers.
+// The hash of this number; hash order is the order of the numbers. (Each program that makes hashes has such lines, for numbers as wide as it needs: a crate
+// for them would be no plainer.)
 fn hash_of(number: u16) -> Hash {
     let [low, high] = number.to_le_bytes();
     let mut bytes = [0; 20];
@@ -30,9 +31,7 @@ fn hash_of(number: u16) -> Hash {
 fn references(numbers: &[u16]) -> Option<References> {
     let mut refs = References::new();
     for number in numbers {
-        if !refs.push(hash_of(*number)) {
-            return None;
-        }
+        refs.push(hash_of(*number)).ok()?;
     }
     Some(refs)
 }

@@ -105,7 +105,3 @@ module _ (m : Meaning) (cat : RustCatalogue) (p : Place) (e : Entry) (full : p.u
   then_enters m₁ m₂ q (Err NoBlock) change enters = λ ready fits.
       let done = change ready full numbered in
       enters (catalogue_of cat) done.ready.lit done.ready.backed (subst (λ (n : ℕ). Fits n (catalogue_of cat) e) (sym done.kept.size) fits)
-
--- In a half with room.
-pub enters_at_once : (m m' : Meaning) (cat : RustCatalogue) (p : Place) (e : Entry) (r : Result Place Fault) → Enters m p e r m' → Appends m cat p e r m'
-enters_at_once m m' cat p e r enters ready fits = enters (catalogue_of cat) ready.lit ready.backed fits

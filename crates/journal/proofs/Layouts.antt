@@ -1,6 +1,5 @@
 -- A card made new, stage by stage.
-use Rattle.std.proofs.Common.{◌≡◌, ℕ, ◌+◌, ◌-◌, ◌<◌, ◌≤◌, List, [], Ok, Err, sym, refl, ap, ◌∙◌, subst, inl, inr, arith}
-use Rattle.std.proofs.lemmas.Bool.{both_ways}
+use Rattle.std.proofs.Common.{◌≡◌, ℕ, ◌+◌, ◌-◌, ◌≤◌, List, [], Ok, Err, sym, refl, ap, ◌∙◌, subst, inl, inr, arith}
 use Rattle.disk.specs.declared.Fault.{Fault}
 use Rattle.disk.specs.declared.Fault.TheVariants.{Dark, NoBlock}
 use Rattle.disk.specs.Meaning.{Meaning, Restarted}
@@ -54,38 +53,7 @@ new_place : (p : Place) → p.first ≡ 1 → p.used ≡ 0 → place_of p ≡ re
 new_place p first used = ap (λ k. record { first = k; used = p.used }) first ∙ ap (λ k. record { first = 1; used = k }) used
 
 module _ (m : Meaning) (n : ℕ) (m₁ : Meaning) where
-  -- The label on its way to zeros.
-  pub unlabel_fails : (fault : Fault) → Put m 0 zeros (Err fault) m₁ → LaidOut m n (Err fault) m₁
-  unlabel_fails Dark put = λ fits.
-      let cut = put fits.0 in
-      let low : 0 < m.blocks = omega (arith, fits.1, fits.2) in (
-        cut.dark,
-        cut_kept m m₁ 0 zeros (omega arith) cut,
-        λ f choice. elim (cut.gains 0 (f 0) low (choice 0 (omega (arith, cut.size)))) [
-          | inr new ↦ inr (inl new.1)
-          | inl old ↦ inl (λ k less. elim (cut.gains k (f k) less (choice k (omega (arith, cut.size)))) [ inl before ↦ before | inr new ↦ subst (λ (i : ℕ). m.may i (f i)) (sym new.0) old ])
-        ],
-      )
-  unlabel_fails NoBlock put = λ fits. omega (arith, put fits.0, fits.1, fits.2)
-
   module _ (u : Unit {0}) (unlabelled : Put m 0 zeros (Ok u) m₁) (m₂ : Meaning) where
-    -- The halves on their way to zeros, under no label.
-    pub clear_fails : (fault : Fault) → Clear m₁ (Err fault) m₂ → LaidOut m n (Err fault) m₂
-    clear_fails Dark clear = λ fits.
-        let one = unlabelled fits.0 in
-        let two = clear one.light in
-        let kept₂ : DataKept m₁ m₂ = record {
-          size = two.size;
-          gains = λ k y past less may. two.gains k y less (λ within. omega (arith, within.1)) may;
-          contents = λ light. absurd (both_ways m₂.lit two.dark light);
-        } in
-        let low : 0 < m₁.blocks = omega (arith, fits.1, fits.2, one.size) in (
-          two.dark,
-          kept_more m m₁ m₂ one.light (settled_kept m m₁ 0 zeros (omega arith) one) kept₂,
-          λ f choice. inr (inl ((one.sets 0 (f 0) (omega (arith, one.size)) (two.gains 0 (f 0) low (λ within. omega (arith, within.0)) (choice 0 (omega (arith, two.size))))).0 refl)),
-        )
-    clear_fails NoBlock clear = λ fits. let one = unlabelled fits.0 in omega (arith, clear one.light, one.size, fits.1, fits.2)
-
     module _ (v : Unit {0}) (halves : Clear m₁ (Ok v) m₂) (m₃ : Meaning) (p : Place) (first : p.first ≡ 1) (side : p.side ≡ Lower) (used : p.used ≡ 0) where
       -- What the halves may be found with, once they are cleared.
       zeroed : (fits : LayingOut m n) (k : ℕ) (y : List ℕ) → 1 ≤ k → k ≤ 128 → m₂.may k y → y ≡ zeros
@@ -161,10 +129,6 @@ found_kept m m₁ m₂ restarted kept = record {
 module _ (m m₁ m₂ : Meaning) (n : ℕ) (restarted : Restarted m m₁) (same : n ≡ m₁.blocks) (low : 130 ≤ n) (high : n ≤ 65536) where
   sized : CardSized m
   sized = let size : n ≡ m.blocks = same ∙ restarted.size in (omega arith, omega arith)
-
-  pub format_stands : (p : Place) → LaidOut m₁ n (Ok p) m₂ → Formatted m (Ok p) m₂
-  format_stands p laid =
-      let done = laid (restarted.light, same, low, high) in (sized.0, sized.1, done.0, found_kept m m₁ m₂ restarted done.1)
 
   pub format_fails : (fault : Fault) → LaidOut m₁ n (Err fault) m₂ → Formatted m (Err (Failed fault)) m₂
   format_fails Dark laid =

@@ -1,7 +1,5 @@
 pub mod Backing
 pub mod Cuts
-pub mod Clears
-pub mod Listeds
 pub mod Steps
 pub mod Changes
 pub mod Enterings

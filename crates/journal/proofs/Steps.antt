@@ -33,9 +33,6 @@ cut_kept m m' b x low cut = record {
   contents = λ light k past less. let z : true ≡ false = sym light ∙ cut.dark in let n : ◌≡◌ {A = ℕ} 0 1 = cc in absurd (omega arith);
 }
 
-pub kept_same : (m : Meaning) → DataKept m m
-kept_same m = record { size = refl; gains = λ k y past less may. may; contents = λ light k past less. refl }
-
 pub kept_more : (m₀ m₁ m₂ : Meaning) → m₁.lit ≡ true → DataKept m₀ m₁ → DataKept m₁ m₂ → DataKept m₀ m₂
 kept_more m₀ m₁ m₂ lit a b = record {
   size = b.size ∙ a.size;

@@ -14,6 +14,8 @@ use Rattle.journal.specs.Formats.{DataFound, FormatCut, new_standing}
 use Rattle.journal.specs.Steps.{DataKept, CardSized}
 use Rattle.journal.specs.View.{place_of, standing_of}
 use Rattle.journal.specs.declared.place.Place.{Place}
+use Rattle.journal.specs.declared.appending.AppendError.{AppendError}
+use Rattle.journal.specs.declared.appending.AppendError.TheVariants.{NumbersSpent as AppendNumbersSpent, Failed as AppendFailed}
 use Rattle.journal.specs.declared.formatting.FormatError.{FormatError}
 use Rattle.journal.specs.declared.formatting.FormatError.TheVariants.{WrongSize, Failed as FormatFailed}
 use Rattle.journal.specs.declared.keeping.EntryError.{EntryError}
@@ -36,6 +38,11 @@ Fitting c e = Fits c.blocks (catalogue_of c) e
 
 abbrev pub Numbered : Place → Type 0
 Numbered p = next_number (place_of p) ≤ 2 ^ 62 - 128
+
+-- The same error where an entry is also applied.
+abbrev pub entry_error_of : AppendError → EntryError
+entry_error_of AppendNumbersSpent = NumbersSpent
+entry_error_of (AppendFailed fault) = Failed fault
 
 -- The whole call. Refused where the entry does not fit or the numbers are spent; and whatever it is refused for, catalogue and place are as they were.
 abbrev pub AppendedApplied : Meaning → Catalogue → Place → Entry → Result Unit EntryError → Meaning → Catalogue → Place → Type 0

@@ -5,3 +5,4 @@ pub mod View
 pub mod Appends
 pub mod Formats
 pub mod Keeps
+pub mod Errors

@@ -1,70 +1,80 @@
 // Entries appended to the journal, with the change of halves where the half in use is full.
-ghost use Rattle.std.specs.Prelude.{◌≡◌, ◌+◌, ◌-◌, ◌^◌, ◌<◌, ◌≤◌, length, IfOk, slice_index_or};
+// Disk and place stay two parameters: a struct that lends the disk would owe in each contract that it still lends the same one, at the same place.
+ghost use Rattle.std.specs.Prelude.{◌≡◌, ℕ, ◌+◌, ◌-◌, ◌^◌, ◌<◌, ◌≤◌, IfOk};
 ghost use Rattle.catalogue.specs.Whole.{catalogue_of};
 ghost use Rattle.journal.specs.Appends.{Appended, Appends, Changed, Enters, EntryPut, LabelPut, ListingPut};
-ghost use Rattle.journal.specs.Blocks.{no_entry};
-ghost use Rattle.model.specs.Listing.{listing};
+ghost use Rattle.journal.specs.View.{SlotAt};
 ghost use Rattle.records.specs.View.{entry_of};
 
-use crate::place::Place;
+use crate::place::{Place, Slot};
 use crate::putting::put;
 use card::{Label, encode_entry, encode_label};
 use catalogue::Catalogue;
 use disk::{Disk, Fault};
 use queries::{listing_entry, listing_len};
 use records::Entry;
+use std::error::Error;
+use std::fmt;
 
 // The greatest number of an entry that may still be appended: a change of halves after it leaves room below the label's limit.
 const LAST_NUMBER: u64 = (1 << 62) - 128;
 
 // Why an entry was not appended: the journal's numbers are spent, or the disk failed.
-#[derive(Clone, Copy)]
+#[derive(Clone, Copy, PartialEq, Eq, Debug)]
 pub enum AppendError {
     NumbersSpent,
     Failed(Fault),
 }
 
-// Writes the entry to a position of the half and settles it.
-fn put_entry<D: Disk>(disk: &mut D, at: &Place, position: u32, entry: &Entry) -> Result<(), Fault>
-    requires { position < 64 }
-    ensures { EntryPut (D.Disk.means disk.old) at.now position (entry_of entry.now) result (D.Disk.means disk.new) }
-{
-    match at.slot(position) {
-        Some(slot) => {
-            let block = encode_entry(entry, slot.number, slot.back);
-            put(disk, u64::from(slot.block), &block)
-        }
-        None => unreachable(),
+impl fmt::Display for AppendError {
+    ghost use Rattle.std.specs.Prelude.{Some};
+    ghost use Rattle.journal.specs.Errors.{append_error_text};
+
+    ghost output = { λ error. Some (append_error_text error) };
+
+    fn fmt<W: fmt::Write>(&self, f: &mut fmt::Formatter<W>) -> fmt::Result {
+        f.write_str(match self {
+            AppendError::NumbersSpent => "the journal's numbers are spent",
+            AppendError::Failed(_) => "the disk failed",
+        })
     }
 }
 
-// Writes the entry of the listing in this place to the same position of the half and settles it.
-fn put_listed<D: Disk>(
-    disk: &mut D,
-    catalogue: &Catalogue,
-    at: &Place,
-    place: u32,
-) -> Result<(), Fault>
-    requires { (place < 64) × (place < length (listing (catalogue_of catalogue.now))) }
-    ensures { EntryPut (D.Disk.means disk.old) at.now place (slice_index_or (listing (catalogue_of catalogue.now)) place no_entry) result (D.Disk.means disk.new) }
-{
-    match listing_entry(catalogue, place as usize) {
-        Some(entry) => put_entry(disk, at, place, &entry),
-        None => unreachable(),
+impl Error for AppendError {}
+
+impl From<Fault> for AppendError {
+    ghost use Rattle.journal.specs.declared.appending.AppendError.TheVariants.{Failed};
+
+    ghost from_gives = { λ fault error. error ≡ Failed fault };
+
+    fn from(fault: Fault) -> AppendError {
+        AppendError::Failed(fault)
     }
 }
 
-// Writes the listing of the catalogue to the half, entry by entry, each one settled before the next, and answers how many there are.
+// Writes the entry to where one stands and settles it.
+fn put_entry<D: Disk>(disk: &mut D, slot: &Slot, entry: &Entry) -> Result<(), Fault>
+    ensures { (p : Place) (i : ℕ) → SlotAt p i slot.now → EntryPut (D.Disk.means disk.old) p i (entry_of entry.now) result (D.Disk.means disk.new) }
+{
+    let block = encode_entry(entry, slot.number, slot.back);
+    put(disk, u64::from(slot.block), &block)
+}
+
+// Writes the listing of the catalogue to the half, entry by entry, each one settled before the next, and answers how many there are. The listing is no slice:
+// each entry is asked for by its place.
 fn put_listing<D: Disk>(disk: &mut D, catalogue: &Catalogue, at: &Place) -> Result<u32, Fault>
     ensures few { IfOk result (λ k. k ≤ 61) }
     ensures law { ListingPut (D.Disk.means disk.old) (catalogue_of catalogue.now) at.now result (D.Disk.means disk.new) }
 {
     let count = listing_len(catalogue) as u32;
     for place in 0..count {
-        put_listed(disk, catalogue, at, place)?;
+        let slot = at.slot(place).unwrap();
+        let entry = listing_entry(catalogue, place as usize).unwrap();
+        put_entry(disk, &slot, &entry)?;
     }
     Ok(count)
 }
+
 // Writes the label that names the half and settles it.
 pub(crate) fn put_label<D: Disk>(
     disk: &mut D,
@@ -99,17 +109,16 @@ fn change_halves<D: Disk>(disk: &mut D, catalogue: &Catalogue, at: &Place) -> Re
     Ok(next)
 }
 
-// Writes the entry to the next position of a half with room.
+// Writes the entry to the next position of a half with room: `append_at` has changed a full one first.
 fn enter<D: Disk>(disk: &mut D, at: &Place, entry: &Entry) -> Result<Place, Fault>
     requires { at.now.used < 64 }
     ensures { Enters (D.Disk.means disk.old) at.now (entry_of entry.now) result (D.Disk.means disk.new) }
 {
-    put_entry(disk, at, at.used, entry)?;
-    Ok(Place {
-        side: at.side,
-        first: at.first,
-        used: at.used + 1,
-    })
+    let slot = at.slot(at.used).unwrap();
+    put_entry(disk, &slot, entry)?;
+    let mut next = *at;
+    next.used += 1;
+    Ok(next)
 }
 
 // Writes the entry to the next position of the journal, which first changes halves where the half in use is full.
@@ -142,11 +151,6 @@ pub fn append<D: Disk>(
     if place.next_number() > LAST_NUMBER {
         return Err(AppendError::NumbersSpent);
     }
-    match append_at(disk, catalogue, place, entry) {
-        Ok(next) => {
-            *place = next;
-            Ok(())
-        }
-        Err(fault) => Err(AppendError::Failed(fault)),
-    }
+    *place = append_at(disk, catalogue, place, entry)?;
+    Ok(())
 }

@@ -16,6 +16,16 @@ impl Side {
         }
     }
 
+    // The half that begins with this block, where one does.
+    pub fn starting_at(first_block: u32) -> Option<Side>
+        ensures { MatchOption result ((side : Side) → start_of side ≡ first_block → ⊥) (λ side. start_of side ≡ first_block) }
+    {
+        [Side::Lower, Side::Upper]
+            .iter()
+            .copied()
+            .find(|side| side.start() == first_block)
+    }
+
     // The other half.
     pub(crate) fn other(&self) -> Side
         ensures { start_of result ≡ other (start_of self.now) }

@@ -1,12 +1,13 @@
 -- The half that a label names, read to its end or to the first entry that is wrong.
-use Rattle.std.proofs.Common.{◌≡◌, ℕ, ◌+◌, ◌<◌, ◌≤◌, true, List, length, Ok, Err, Result, sym, refl, ap, ◌∙◌, subst, inl, inr, arith}
+use Rattle.std.proofs.Common.{◌≡◌, ℕ, ◌+◌, ◌<◌, ◌≤◌, true, ◌⊎◌, List, length, Some, None, Option, MatchOption, Ok, Err, Result, rules, sym, refl, ap, ◌∙◌, subst, inl, inr, arith}
 use Rattle.std.proofs.lemmas.Bool.{both_ways}
+use Rattle.std.specs.Option.{IsSome, ok_or}
 use Rattle.disk.specs.Meaning.{Meaning}
 use Rattle.model.specs.Plain.{Entry}
 use Rattle.model.specs.Fits.{Fits}
 use Rattle.catalogue.specs.declared.catalogues.Catalogue.{Catalogue}
 use Rattle.catalogue.specs.Whole.{catalogue_of}
-use Rattle.card.specs.Label.{Labels}
+use Rattle.card.specs.Label.{Half, Labels}
 use Rattle.card.specs.View.{half_of}
 use Rattle.card.specs.declared.label.Label.{Label}
 use Rattle.recovery.specs.Loads.{Counts, Reads, Ends, Whole}
@@ -14,6 +15,8 @@ use Rattle.journal.specs.View.{start_of, half_with}
 use Rattle.journal.specs.Steps.{CardSized}
 use Rattle.recovery.specs.Loaded.{FreshFor, EntriesRead, LabelRead, Loaded, HalfFound, HalfInto, HalfRead}
 use Rattle.journal.specs.declared.place.Place.{Place}
+use Rattle.journal.specs.declared.place.Side.{Side}
+use Rattle.journal.specs.declared.place.Side.TheVariants.{Lower, Upper}
 use Rattle.recovery.specs.declared.loading.LoadError.{LoadError}
 use Rattle.recovery.specs.declared.loading.LoadError.TheVariants.{Dark, WrongSize, BadLabel, BadEntry}
 
@@ -105,6 +108,10 @@ module _ (m : Meaning) (p : Place) (l : Label) (c d : Catalogue) (first : p.firs
         at.1.2.blocks,
       )
 
+-- A disk with as many blocks as a card has.
+pub card_sized : (m : Meaning) (o : Option ℕ) (size n : ℕ) → MatchOption o ((size < 130) ⊎ (65536 < size)) (λ k. (k ≡ size) × (130 ≤ k) × (k ≤ 65536)) → size ≡ m.blocks → o ≡ Some n → CardSized m × (n ≡ m.blocks)
+card_sized m o size n cases same is = let found = rw is at cases in ((omega (arith, found, same), omega (arith, found, same)), found.0 ∙ same)
+
 -- What a whole load says of a card whose label was read.
 pub half_loads : (m : Meaning) (c : Catalogue) (r : Result Place LoadError) (d : Catalogue) → CardSized m → m.lit ≡ true → HalfFound m r d → Loaded m c r d
 half_loads m c (Ok p) d sized lit found = (sized, lit, found)
@@ -112,6 +119,17 @@ half_loads m c (Err Dark) d sized lit found = absurd found
 half_loads m c (Err WrongSize) d sized lit found = absurd found
 half_loads m c (Err BadLabel) d sized lit found = absurd found
 half_loads m c (Err (BadEntry b)) d sized lit found = (sized, lit, found)
+
+-- The label that block 0 says.
+pub label_read : (m : Meaning) (n : ℕ) (block : List ℕ) (o : Option Label) (r : Result Label LoadError) → m.lit ≡ true → block ≡ m.present 0
+    → MatchOption o ((h : Half) → Labels n block h → ⊥) (λ l. Labels n block (half_of l)) → r ≡ ok_or o BadLabel → LabelRead m n r
+label_read m n block None r lit same none is = rw is (lit, λ h labels. none h (subst (λ b. Labels n b h) (sym same) labels))
+label_read m n block (Some l) r lit same labels is = rw is (lit, subst (λ b. Labels n b (half_of l)) same labels)
+
+-- A label in range names a half.
+pub side_there : (b : ℕ) (o : Option Side) → (b ≡ 1) ⊎ (b ≡ 65) → MatchOption o ((side : Side) → start_of side ≡ b → ⊥) (λ side. start_of side ≡ b) → IsSome o
+side_there b None which none = absurd (elim which [ inl low ↦ none Lower (sym low) | inr high ↦ none Upper (sym high) ])
+side_there b (Some side) which start = search rules
 
 -- No label.
 pub label_fails : (m : Meaning) (c : Catalogue) (n : ℕ) (e : LoadError) → CardSized m → n ≡ m.blocks → LabelRead m n (Err e) → Loaded m c (Err e) c

@@ -1,6 +1,8 @@
 -- What loading a card answers, for every content that it may have.
 use Rattle.std.specs.Prelude.{◌≡◌, ℕ, ◌+◌, ◌<◌, ◌≤◌, Bool, true, false, ◌⊎◌, List, length, Ok, Err, Result}
 use Rattle.disk.specs.Meaning.{Meaning}
+use Rattle.disk.specs.declared.Fault.{Fault}
+use Rattle.disk.specs.declared.Fault.TheVariants.{Dark as FaultDark, NoBlock as FaultNoBlock}
 use Rattle.model.specs.Plain.{Entry, nothing}
 use Rattle.model.specs.Fits.{Fits, Makes}
 use Rattle.catalogue.specs.declared.catalogues.Catalogue.{Catalogue}
@@ -15,6 +17,11 @@ use Rattle.journal.specs.View.{start_of, half_with}
 use Rattle.journal.specs.declared.place.Place.{Place}
 use Rattle.recovery.specs.declared.loading.LoadError.{LoadError}
 use Rattle.recovery.specs.declared.loading.LoadError.TheVariants.{Dark, WrongSize, BadLabel, BadEntry}
+
+-- What a fault of the disk is to a load.
+abbrev pub load_error_of : Fault → LoadError
+load_error_of FaultDark = Dark
+load_error_of FaultNoBlock = WrongSize
 
 -- No entry that the block says fits.
 abbrev pub Unfitting : Catalogue → List ℕ → Type 0

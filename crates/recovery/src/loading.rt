@@ -1,19 +1,22 @@
 // The journal read back: what the entries on a card make.
-ghost use Rattle.std.specs.Prelude.{◌≡◌, ◌<◌, ◌⊎◌};
+// Disk and catalogue stay two parameters: a struct that lends both would owe in each contract that it still lends the same ones.
+ghost use Rattle.std.specs.Prelude.{ℕ, is_ok};
 ghost use Rattle.card.specs.Label.{InRange};
 ghost use Rattle.card.specs.View.{half_of};
+ghost use Rattle.journal.specs.View.{SlotAt};
 ghost use Rattle.recovery.specs.Loaded.{EntriesRead, HalfRead, LabelRead, Loaded, PositionRead, Took};
 ghost use Rattle.recovery.specs.Recovers.{BackedLoads};
-ghost use Rattle.journal.specs.View.{SlotAt, start_of};
 
-use card::{Label, counts, decode_entry, decode_label};
-use catalogue::Catalogue;
+use card::{Label, card_size, counts, decode_entry, decode_label};
+use catalogue::{Catalogue, Unfit};
 use disk::{Disk, Fault};
 use journal::{Place, Side, Slot};
+use std::error::Error;
+use std::fmt;
 
 // Why a card was not loaded: the disk is dark; its number of blocks is none that a card has; the label's mark or a field is wrong; or the entry in
 // this block does not fit, or does not count although the half began with it.
-#[derive(Clone, Copy)]
+#[derive(Clone, Copy, PartialEq, Eq, Debug)]
 pub enum LoadError {
     Dark,
     WrongSize,
@@ -21,50 +24,56 @@ pub enum LoadError {
     BadEntry(u32),
 }
 
-// Applies the entry that the block says, and answers whether there is one that fits.
-fn take_entry(catalogue: &mut Catalogue, block: &[u8; 256]) -> bool
-    ensures { Took catalogue.old block.now result catalogue.new }
-{
-    match decode_entry(block) {
-        Some(entry) => catalogue.apply(&entry).is_ok(),
-        None => false,
+impl fmt::Display for LoadError {
+    ghost use Rattle.std.specs.Prelude.{Some};
+    ghost use Rattle.recovery.specs.Errors.{load_error_text};
+
+    ghost output = { λ error. Some (load_error_text error) };
+
+    fn fmt<W: fmt::Write>(&self, f: &mut fmt::Formatter<W>) -> fmt::Result {
+        match self {
+            LoadError::Dark => write!(f, "the disk has no power"),
+            LoadError::WrongSize => write!(f, "no card has as many blocks"),
+            LoadError::BadLabel => write!(f, "the label is wrong"),
+            LoadError::BadEntry(block) => write!(f, "the entry in block {block} is wrong"),
+        }
     }
 }
 
-// Where the entry at a position of the half stands.
-fn slot_at(at: &Place, position: u32) -> Slot
-    requires { position < 64 }
-    ensures { SlotAt at.now position result }
-{
-    match at.slot(position) {
-        Some(slot) => slot,
-        None => unreachable(),
+impl Error for LoadError {}
+
+impl From<Fault> for LoadError {
+    ghost use Rattle.recovery.specs.Loaded.{load_error_of};
+    ghost use Rattle.std.specs.Prelude.{◌≡◌};
+
+    ghost from_gives = { λ fault error. error ≡ load_error_of fault };
+
+    fn from(fault: Fault) -> LoadError {
+        match fault {
+            Fault::Dark => LoadError::Dark,
+            Fault::NoBlock => LoadError::WrongSize,
+        }
     }
 }
 
-// Reads the entry at a position of the half and applies it, if it counts; answers whether it does.
-fn read_position<D: Disk>(
-    disk: &D,
-    catalogue: &mut Catalogue,
-    at: &Place,
-    position: u32,
-) -> Result<bool, LoadError>
-    requires { position < 64 }
-    ensures { PositionRead (D.Disk.means disk.now) at.now position catalogue.old result catalogue.new }
+// Applies the entry that the block says, if it says one that fits.
+fn take_entry(catalogue: &mut Catalogue, block: &[u8; 256]) -> Result<(), Unfit>
+    ensures { Took catalogue.old block.now (is_ok result) catalogue.new }
 {
-    let slot = slot_at(at, position);
+    let entry = decode_entry(block).ok_or(Unfit)?;
+    catalogue.apply(&entry)
+}
+
+// Reads the entry that stands there and applies it, if it counts; answers whether it does.
+fn read_slot<D: Disk>(disk: &D, catalogue: &mut Catalogue, slot: &Slot) -> Result<bool, LoadError>
+    ensures { (p : Place) (i : ℕ) → SlotAt p i slot.now → PositionRead (D.Disk.means disk.now) p i catalogue.old result catalogue.new }
+{
     let mut block = [0; 256];
-    match disk.read(u64::from(slot.block), &mut block) {
-        Ok(_) => {}
-        Err(Fault::Dark) => return Err(LoadError::Dark),
-        Err(Fault::NoBlock) => return Err(LoadError::WrongSize),
-    }
+    disk.read(u64::from(slot.block), &mut block)?;
     if !counts(&block, slot.number, slot.back) {
         return Ok(false);
     }
-    if !take_entry(catalogue, &block) {
-        return Err(LoadError::BadEntry(slot.block));
-    }
+    take_entry(catalogue, &block).map_err(|_| LoadError::BadEntry(slot.block))?;
     Ok(true)
 }
 
@@ -73,7 +82,8 @@ fn read_entries<D: Disk>(disk: &D, catalogue: &mut Catalogue, at: &Place) -> Res
     ensures { EntriesRead (D.Disk.means disk.now) at.now catalogue.old result catalogue.new }
 {
     for position in 0..64 {
-        if !read_position(disk, catalogue, at, position)? {
+        let slot = at.slot(position).unwrap();
+        if !read_slot(disk, catalogue, &slot)? {
             return Ok(position);
         }
     }
@@ -85,26 +95,8 @@ fn read_label<D: Disk>(disk: &D, blocks: u32) -> Result<Label, LoadError>
     ensures { LabelRead (D.Disk.means disk.now) blocks result }
 {
     let mut block = [0; 256];
-    match disk.read(0, &mut block) {
-        Ok(_) => {}
-        Err(Fault::Dark) => return Err(LoadError::Dark),
-        Err(Fault::NoBlock) => return Err(LoadError::WrongSize),
-    }
-    match decode_label(&block, blocks) {
-        Some(label) => Ok(label),
-        None => Err(LoadError::BadLabel),
-    }
-}
-
-// The half that begins with this block: 1 or 65.
-fn side_of(first_block: u32) -> Side
-    ensures { (first_block ≡ 1) ⊎ (first_block ≡ 65) → start_of result ≡ first_block }
-{
-    if first_block == 1 {
-        Side::Lower
-    } else {
-        Side::Upper
-    }
+    disk.read(0, &mut block)?;
+    decode_label(&block, blocks).ok_or(LoadError::BadLabel)
 }
 
 // Reads the half that the label names.
@@ -116,20 +108,17 @@ fn read_half<D: Disk>(
     requires { InRange (half_of label.now) }
     ensures { HalfRead (D.Disk.means disk.now) label.now catalogue.old result catalogue.new }
 {
-    let at = Place {
-        side: side_of(label.first_block),
+    let mut place = Place {
+        side: Side::starting_at(label.first_block).unwrap(),
         first: label.first_number,
         used: 0,
     };
-    let used = read_entries(disk, catalogue, &at)?;
+    let used = read_entries(disk, catalogue, &place)?;
     if used < label.count {
-        return Err(LoadError::BadEntry(slot_at(&at, used).block));
+        return Err(LoadError::BadEntry(place.slot(used).unwrap().block));
     }
-    Ok(Place {
-        side: at.side,
-        first: at.first,
-        used,
-    })
+    place.used = used;
+    Ok(place)
 }
 
 // Reads the label and the journal of a card into the catalogue, whatever was in it, and writes nothing.
@@ -137,11 +126,8 @@ pub fn load<D: Disk>(disk: &D, catalogue: &mut Catalogue) -> Result<Place, LoadE
     ensures card { Loaded (D.Disk.means disk.now) catalogue.old result catalogue.new }
     ensures backed { BackedLoads (D.Disk.means disk.now) result catalogue.new }
 {
-    let blocks = disk.size();
-    if blocks < 130 || blocks > 65_536 {
-        return Err(LoadError::WrongSize);
-    }
-    let label = read_label(disk, blocks as u32)?;
-    catalogue.clear(blocks as u32);
+    let blocks = card_size(disk.size()).ok_or(LoadError::WrongSize)?;
+    let label = read_label(disk, blocks)?;
+    catalogue.clear(blocks);
     read_half(disk, catalogue, &label)
 }

@@ -4,6 +4,6 @@ use Rattle.card.proofs.bytes.put.Goals as goal
 
 pub returns : goal.returns
 returns c = record {
-  here = put_here c.args.at _ c.args.block.now _ c.args.bytes.now c.copy_from_slice.ensures.after (omega arith) c.requires;
-  kept = put_kept c.args.at _ c.args.block.now _ c.args.bytes.now c.copy_from_slice.ensures.after (omega arith) c.requires;
+  here = put_here c.args.at _ c.args.block.now _ c.args.bytes.now c.copy_from_slice.ensures.after (omega arith) (omega arith);
+  kept = put_kept c.args.at _ c.args.block.now _ c.args.bytes.now c.copy_from_slice.ensures.after (omega arith) (omega arith);
 }

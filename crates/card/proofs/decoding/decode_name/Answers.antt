@@ -6,5 +6,5 @@ pub returns : goal.returns
 returns c block is =
     let rest = c.args.rest.now in
     let wide : 21 + get_or rest 20 0 - 21 ≡ get_or rest 20 0 = omega arith in
-    name_cases block rest is (get_or rest 20 0) _ c.requires refl c.if-length-gt-LONGEST_NAME.false (ap (λ n. take n (drop 21 rest)) wide) c.new.result
+    name_cases block rest is (get_or rest 20 0) _ (omega arith) refl c.if-length-gt-LONGEST_NAME.false (ap (λ n. take n (drop 21 rest)) wide) c.new.result
     c.new.ensures.cases

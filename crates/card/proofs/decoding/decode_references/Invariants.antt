@@ -1,6 +1,6 @@
-use Rattle.records.specs.View.{listed}
-use Rattle.card.proofs.Reading.{Gathered}
+use Rattle.std.proofs.Common.{◌≡◌, map, take}
+use Rattle.records.specs.View.{bytes_of, listed}
 use Rattle.card.proofs.decoding.decode_references.Given as goal
 
-abbrev pub invariant-loop-k : goal.invariant-loop-k
-invariant-loop-k l = Gathered l.rest (listed l.refs) l.k
+abbrev pub invariant-loop-bytes : goal.invariant-loop-bytes
+invariant-loop-bytes l = map bytes_of (listed l.refs) ≡ take l.bytes-index l.bytes-items

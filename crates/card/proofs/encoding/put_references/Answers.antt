@@ -1,7 +1,7 @@
-use Rattle.std.proofs.Common.{sym, ap, ◌∙◌, arith}
+use Rattle.std.proofs.Common.{sym, ap, ◌∙◌}
 use Rattle.std.proofs.lemmas.List.{get_or-map}
 use Rattle.records.specs.View.{bytes_of}
-use Rattle.card.proofs.Referring.{referring_all, referring_more}
+use Rattle.card.proofs.Referring.{referring_more}
 use Rattle.card.proofs.encoding.put_references.Goals as goal
 
 pub loop-k-preserved : goal.loop-k-preserved
@@ -13,6 +13,3 @@ loop-k-preserved c =
     (ap bytes_of c.index-hashes-k.is ∙ sym (get_or-map bytes_of hashes k hash _ c.loop-k-test.true))
     c.loop-k.invariant
     c.put.ensures
-
-pub returns : goal.returns
-returns c = referring_all c.args.hashes.now c.args.block.now c.loop-k.block c.loop-k.k (omega arith) c.loop-k.invariant

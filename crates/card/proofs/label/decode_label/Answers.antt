@@ -1,22 +1,16 @@
-use Rattle.std.proofs.Common.{Some, sym, ap, ◌∙◌}
-use borrow.Author.Tests.{clash}
-use Rattle.card.specs.Label.{Half, Labels}
-use Rattle.card.specs.View.{half_of}
-use Rattle.card.proofs.Labelling.{in_range, labels, same_label}
+use Rattle.std.proofs.Common.{arith}
+use Rattle.card.proofs.Labelling.{label_back, label_cases}
+use Rattle.card.proofs.Numbers.{got_four, got_eight}
 use Rattle.card.proofs.label.decode_label.Goals as goal
 
-pub returns-then-is_in_range : goal.returns-then-is_in_range
-returns-then-is_in_range c = record {
-  cases =
-      labels _ c.args.block.now _ c.u32_at.ensures c.u64_at.ensures c.read_ending.ensures.back
-      (c.is_label.ensures.0 c.if-not-is_label.false) (c.is_in_range.ensures.0 c.if-is_in_range.true);
-  back = λ l labelled. ap Some (same_label _ c.args.block.now _ c.u32_at.ensures c.u64_at.ensures c.read_ending.ensures.back l labelled);
-}
-
-pub returns-else-is_in_range : goal.returns-else-is_in_range
-returns-else-is_in_range c = record { cases = none; back = λ l labelled. absurd (none (half_of l) labelled) }
-  where
-    none : (h : Half) → Labels c.args.blocks c.args.block.now h → ⊥
-    none h labelled =
-        let good = in_range _ c.args.block.now _ c.u32_at.ensures c.u64_at.ensures c.read_ending.ensures.back h labelled in
-        clash (sym c.if-is_in_range.false ∙ c.is_in_range.ensures.1 good)
+pub returns : goal.returns
+returns c =
+    let block = c.args.block.now in
+    let count = got_four 236 _ block _ (omega arith) c.bytes_at.ensures c.from_le_bytes.ensures in
+    let first = got_eight 240 _ block _ (omega arith) c.bytes_at-2.ensures c.from_le_bytes-2.ensures in
+    let start = c.read_ending.ensures.back in
+    let marked = c.is_label.ensures.0 c.if-not-is_label.false in
+    record {
+      cases = label_cases _ block _ count first start marked c.is_in_range.result c.is_in_range.ensures c.then_some.result c.then_some.ensures;
+      back = label_back _ block _ count first start marked c.is_in_range.result c.is_in_range.ensures c.then_some.result c.then_some.ensures;
+    }

@@ -1,16 +1,17 @@
-use Rattle.std.proofs.Common.{replicate, ◌∙◌, arith}
+use Rattle.std.proofs.Common.{rules, replicate, ◌∙◌, arith}
 use Rattle.card.specs.Fields.{began_with_field, card_size_field}
 use Rattle.card.specs.View.{LabelFields, half_of}
+use Rattle.card.proofs.Numbers.{wrote_four}
 use Rattle.card.proofs.Writes.{below_both, read_below, zero_below, zero_blank, zero_less}
 use Rattle.card.proofs.label.encode_label.Goals as goal
 
 pub returns : goal.returns
 returns c =
-    let one = c.put_u32.new.block in
-    let two = c.put_u32-2.new.block in
+    let one = c.put.new.block in
+    let two = c.put-2.new.block in
     let exit = c.put_trailer.new.block in
-    let size = c.put_u32.ensures in
-    let count = c.put_u32-2.ensures in
+    let size = wrote_four 232 c.args.blocks _ _ _ c.ranges.blocks.fits c.to_le_bytes.ensures c.put.ensures in
+    let count = wrote_four 236 c.args.label.now.count _ _ _ (search rules) c.to_le_bytes-2.ensures c.put-2.ensures in
     let end = c.put_trailer.ensures in
     let from_one = below_both one two exit 236 240 (omega arith) count.kept.below end.below in
     let fields : LabelFields c.args.blocks exit (half_of c.args.label.now) = record {

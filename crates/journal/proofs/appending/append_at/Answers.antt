@@ -1,10 +1,7 @@
 use Rattle.std.proofs.Common.{◌≡◌, ◌+◌, ◌-◌, ◌^◌, ◌≤◌, arith}
 use Rattle.std.proofs.lemmas.Result.{err_from_is_err_and}
-use Rattle.journal.proofs.Enterings.{change_fails, then_enters, enters_at_once}
+use Rattle.journal.proofs.Enterings.{change_fails, then_enters}
 use Rattle.journal.proofs.appending.append_at.Goals as goal
-
-pub returns-then-at-lt64 : goal.returns-then-at-lt64
-returns-then-at-lt64 g c = enters_at_once _ (g.D.Disk.means c.enter.new.disk) _ _ _ c.enter.result c.enter.ensures
 
 pub returns-in_err-next : goal.returns-in_err-next
 returns-in_err-next g c =

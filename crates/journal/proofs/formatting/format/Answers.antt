@@ -1,11 +1,10 @@
-use Rattle.std.proofs.Common.{arith}
-use Rattle.journal.proofs.Layouts.{format_fails, format_stands}
+use Rattle.std.proofs.Common.{◌∙◌}
+use Rattle.std.proofs.lemmas.Result.{err_from_is_err_and}
+use Rattle.journal.proofs.Layouts.{format_fails}
 use Rattle.journal.proofs.formatting.format.Goals as goal
 
-pub returns-in-Ok : goal.returns-in-Ok
-returns-in-Ok g c =
-    format_stands _ _ _ c.size-blocks.result c.restart.ensures c.size-blocks.ensures.value (omega arith) (omega arith) c.in-Ok.place c.in-Ok.ensures
-
-pub returns-in-Err : goal.returns-in-Err
-returns-in-Err g c =
-    format_fails _ _ _ c.size-blocks.result c.restart.ensures c.size-blocks.ensures.value (omega arith) (omega arith) c.in-Err.fault c.in-Err.ensures
+pub returns-in_err-lay_out : goal.returns-in_err-lay_out
+returns-in_err-lay_out g c =
+    let p = err_from_is_err_and c.from_residual-in_err-lay_out.result c.from_residual-in_err-lay_out.ensures.1 in
+    let size = rw c.in_ok-blocks.ensures.ok_part at c.card_size.ensures in
+    rw (p.1, p.2) (format_fails _ _ _ _ c.restart.ensures (size.0 ∙ c.size.ensures.value) size.1 size.2 c.in_err-lay_out.field-0.0 c.in_err-lay_out.ensures)

@@ -1,17 +1,7 @@
 use Rattle.std.proofs.Common.{refl}
 use Rattle.std.proofs.lemmas.Result.{err_from_is_err_and}
-use Rattle.journal.proofs.Layouts.{clear_fails, label_fails, laid_out, lowest, unlabel_fails}
+use Rattle.journal.proofs.Layouts.{label_fails, laid_out, lowest}
 use Rattle.journal.proofs.formatting.lay_out.Goals as goal
-
-pub returns-in_err-put : goal.returns-in_err-put
-returns-in_err-put g c =
-    let p = err_from_is_err_and c.from_residual.result c.from_residual.ensures.1 in
-    rw (p.1, p.2) (unlabel_fails _ _ _ _ c.in_err-put.ensures)
-
-pub returns-in_err-clear_halves : goal.returns-in_err-clear_halves
-returns-in_err-clear_halves g c =
-    let p = err_from_is_err_and c.from_residual-in_err-clear_halves.result c.from_residual-in_err-clear_halves.ensures.1 in
-    rw (p.1, p.2) (clear_fails _ _ _ _ c.in_ok-put.ensures _ _ c.in_err-clear_halves.ensures)
 
 pub returns-in_err-put_label : goal.returns-in_err-put_label
 returns-in_err-put_label g c =

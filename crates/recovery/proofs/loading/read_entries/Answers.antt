@@ -7,5 +7,7 @@ loop-position-init g c = (inl refl, so_far_none _ _ _)
 
 pub loop-position-preserved : goal.loop-position-preserved
 loop-position-preserved g c =
-    let done = rw c.if-not-branch.false at c.in_ok-read_position.ensures in
+    let slot = rw c.unwrap-slot.ensures at c.slot.ensures in
+    let read = c.in_ok-read_slot.ensures _ _ slot.1 in
+    let done = rw c.if-not-branch.false at read in
     (inr done.0, λ fresh. so_far_more _ _ c.loop-position.position _ _ (omega arith) (c.loop-position.invariant.1 fresh) done.1 done.2)

@@ -1,5 +1,6 @@
 use Rattle.recovery.proofs.Takes.{took}
 use Rattle.recovery.proofs.loading.take_entry.Goals as goal
 
-pub returns-in-Some : goal.returns-in-Some
-returns-in-Some c = rw c.is_ok.ensures.value (took _ _ _ _ c.apply.result c.in-Some.ensures.cases c.in-Some.ensures.once c.apply.ensures)
+pub returns : goal.returns
+returns c =
+    let entry = rw c.in_ok-entry.ensures.ok_part at c.decode_entry.ensures in took _ _ _ _ c.apply.result entry.cases entry.once c.apply.ensures
