@@ -1,41 +1,24 @@
 // Runs with every cut, and with every pair of cuts.
-use crate::scripts::{BLOCKS, Script};
-use crate::tally::Tally;
-use crate::trying::{Cut, Ending, Entries, Layer, Run, Start, try_run};
-use anyhow::anyhow;
-use std::alloc::{AllocError, Global};
-
-// The cuts at each of the first operations, with every number.
-pub(crate) fn all_cuts(
-    heap: Global,
-    operations: u64,
-    numbers: &[u32],
-) -> Result<Vec<Cut>, AllocError> {
-    let mut cuts = Vec::new(heap);
-    for at in 0..operations {
-        for kept in numbers {
-            cuts.push(Cut {
-                at: at + 1,
-                kept: *kept,
-            })?;
-        }
-    }
-    Ok(cuts)
-}
+use crate::runs::{Entries, Layer, Run, Start};
+use crate::scripts::Script;
+use crate::trying::{Attempt, blank_card};
+use anyhow::ensure;
+use std::alloc::Global;
+use tallies::{Cut, Ending, Tally};
 
 // The run on a new card, once with each cut.
-pub(crate) fn single_cuts(heap: Global, run: &Run, cuts: &[Cut]) -> anyhow::Result<Tally> {
-    let made = run.script.made(heap, run.from)?;
-    let mut tally = Tally::new();
+pub(crate) fn single_cuts(heap: Global, run: Run, cuts: &[Cut]) -> anyhow::Result<Tally> {
+    let attempt = Attempt::new(heap, run, blank_card(heap)?)?;
+    let mut tally = Tally::default();
     for cut in cuts {
-        let mut bytes = vec![in heap; 0; BLOCKS * 512]?;
-        tally.count(try_run(heap, bytes.as_mut_slice(), run, &made, *cut)?);
+        let (ending, _) = attempt.cut_at(*cut)?;
+        tally.count(ending);
     }
     Ok(tally)
 }
 
 // The cuts to be tried first, those to be tried after each of them, and which entries are appended then.
-#[derive(Drop)]
+#[derive(PartialEq, Eq, Debug, Drop)]
 pub(crate) struct CutPairs {
     pub(crate) first: Vec<Cut>,
     pub(crate) second: Vec<Cut>,
@@ -43,26 +26,18 @@ pub(crate) struct CutPairs {
 }
 
 // How many first cuts there were, and what the runs after them ended in.
-#[derive(Clone, Copy)]
+#[derive(Clone, Copy, PartialEq, Eq, Default, Debug)]
 pub(crate) struct Found {
     pub(crate) first: u32,
     pub(crate) second: Tally,
 }
 
-// The run on a copy of the card, once with each cut until one comes too late.
-fn second_cuts(
-    heap: Global,
-    card: &[u8],
-    run: &Run,
-    cuts: &[Cut],
-    tally: &mut Tally,
-) -> anyhow::Result<()> {
-    let made = run.script.made(heap, run.from)?;
+// The attempt, once with each cut until one comes too late.
+fn second_cuts(attempt: &Attempt, cuts: &[Cut], tally: &mut Tally) -> anyhow::Result<()> {
     for cut in cuts {
-        let mut bytes = card.to_vec(heap)?;
-        let ending = try_run(heap, bytes.as_mut_slice(), run, &made, *cut)?;
+        let (ending, _) = attempt.cut_at(*cut)?;
         tally.count(ending);
-        if matches!(ending, Ending::Uncut) {
+        if ending == Ending::Uncut {
             return Ok(());
         }
     }
@@ -70,17 +45,9 @@ fn second_cuts(
 }
 
 // The same with each first cut; and after it, from what was found, the rest of the run and one entry more with each second cut.
-fn first_cuts(
-    heap: Global,
-    card: &[u8],
-    run: &Run,
-    cuts: &CutPairs,
-    found: &mut Found,
-) -> anyhow::Result<()> {
-    let made = run.script.made(heap, run.from)?;
+fn first_cuts(attempt: &Attempt, cuts: &CutPairs, found: &mut Found) -> anyhow::Result<()> {
     for cut in cuts.first.as_slice() {
-        let mut bytes = card.to_vec(heap)?;
-        let ending = try_run(heap, bytes.as_mut_slice(), run, &made, *cut)?;
+        let (ending, card) = attempt.cut_at(*cut)?;
         let from = match ending {
             Ending::Uncut => return Ok(()),
             Ending::Before(place) => place,
@@ -91,19 +58,8 @@ fn first_cuts(
             }
         };
         found.first = found.first.saturating_add(1);
-        let rest = Run {
-            entries: cuts.then,
-            from,
-            to: run.to.saturating_add(1),
-            ..*run
-        };
-        second_cuts(
-            heap,
-            bytes.as_slice(),
-            &rest,
-            cuts.second.as_slice(),
-            &mut found.second,
-        )?;
+        let rest = attempt.rest(cuts.then, from, card)?;
+        second_cuts(&rest, cuts.second.as_slice(), &mut found.second)?;
     }
     Ok(())
 }
@@ -118,18 +74,12 @@ fn written(heap: Global, script: Script, layer: Layer, count: u32) -> anyhow::Re
         from: 0,
         to: count,
     };
-    let made = script.made(heap, 0)?;
-    let mut bytes = vec![in heap; 0; BLOCKS * 512]?;
-    match try_run(
-        heap,
-        bytes.as_mut_slice(),
-        &run,
-        &made,
-        Cut { at: 0, kept: 0 },
-    )? {
-        Ending::Uncut => Ok(bytes),
-        _ => Err(anyhow!("no card")),
-    }
+    let (ending, card) = Attempt::new(heap, run, blank_card(heap)?)?.cut_at(Cut {
+        at: 0,
+        kept: 0,
+    })?;
+    ensure!(ending == Ending::Uncut, "no card");
+    Ok(card)
 }
 
 // Every pair of cuts around each of these entries, in which the halves change: the first one from the entry before to the entry after it, the second one in
@@ -141,13 +91,9 @@ pub(crate) fn pairs_around(
     changes: &[u32],
     cuts: &CutPairs,
 ) -> anyhow::Result<Found> {
-    let mut found = Found {
-        first: 0,
-        second: Tally::new(),
-    };
+    let mut found = Found::default();
     for change in changes {
         let from = change.saturating_sub(1);
-        let card = written(heap, script, layer, from)?;
         let run = Run {
             script,
             layer,
@@ -156,7 +102,8 @@ pub(crate) fn pairs_around(
             from,
             to: change.saturating_add(2),
         };
-        first_cuts(heap, card.as_slice(), &run, cuts, &mut found)?;
+        let attempt = Attempt::new(heap, run, written(heap, script, layer, from)?)?;
+        first_cuts(&attempt, cuts, &mut found)?;
     }
     Ok(found)
 }

@@ -2,23 +2,20 @@
 // cuts around changes of halves. What a restart finds has to be the catalogue before the entry that was cut, or the one after it.
 #![tactic(auto)]
 
-mod catalogues;
 mod cutting;
+mod runs;
 mod scripts;
-mod tally;
 #[cfg(test)]
 mod tests;
 mod trying;
 
-use anyhow::anyhow;
-use cutting::{CutPairs, Found, all_cuts, pairs_around, single_cuts};
+use anyhow::Context;
+use cutting::{CutPairs, Found, pairs_around, single_cuts};
 use naming::Name;
+use runs::{Entries, Layer, Run, Start};
 use scripts::{Script, empty_path};
 use std::alloc::Global;
-use trying::{Entries, Layer, Run, Start};
-
-// The numbers by which a restart picks what the card kept of its last writes.
-const KEPT: [u32; 4] = [0, 0xffff_ffff, 0xaaaa_aaaa, 0x0f0f_3c3c];
+use tallies::{ENTRIES, KEPT, OPERATIONS, all_cuts};
 
 // The numbers around a change of halves: nothing is kept, all is, or the label (with the blocks that share its bit) and all else are told apart.
 const AROUND: [u32; 4] = [0, 0xffff_ffff, 1, 0xffff_fffe];
@@ -28,16 +25,11 @@ const FIRST: [u32; 2] = [0, 0xffff_fffe];
 
 const SECOND: [u32; 1] = [1];
 
-// The entries of the run with single cuts, and more operations than it has.
-const ENTRIES: u32 = 190;
-
-const OPERATIONS: u64 = 619;
-
 // More operations than a run around a change of halves has.
-const OPERATIONS_AROUND: u64 = 140;
+const OPERATIONS_AROUND: u64 = 141;
 
 // Changes of halves to cut around: the script, the entries of it in which they come, which entries follow a first cut, and the numbers for the restarts.
-#[derive(Clone, Copy)]
+#[derive(Clone, Copy, PartialEq, Eq, Debug)]
 struct Changes {
     what: &'static str,
     script: Script,
@@ -47,7 +39,7 @@ struct Changes {
     second_kept: &'static [u32],
 }
 
-fn tell_singles(rt: &HostRuntime, script: Script, layer: Layer, on: &str) -> anyhow::Result<()> {
+fn tell_singles(rt: &HostRuntime, script: Script, layer: Layer) -> anyhow::Result<()> {
     let run = Run {
         script,
         layer,
@@ -57,9 +49,11 @@ fn tell_singles(rt: &HostRuntime, script: Script, layer: Layer, on: &str) -> any
         to: ENTRIES,
     };
     let cuts = all_cuts(rt.alloc(), OPERATIONS, &KEPT)?;
-    let tally = single_cuts(rt.alloc(), &run, cuts.as_slice())?;
-    let in_format = tally.in_format;
-    println!(rt; "single cuts, {on}: {in_format} cut in format, {tally}")?;
+    let tally = single_cuts(rt.alloc(), run, cuts.as_slice())?;
+    println!(rt;
+        "single cuts, {layer}: {} cut in format, {tally}",
+        tally.in_format
+    )?;
     Ok(())
 }
 
@@ -73,12 +67,12 @@ fn pairs_of(heap: Global, changes: &Changes, layer: Layer) -> anyhow::Result<Fou
     pairs_around(heap, changes.script, layer, changes.entries, &cuts)
 }
 
-fn tell_pairs(rt: &HostRuntime, changes: &Changes, layer: Layer, on: &str) -> anyhow::Result<()> {
-    let found = pairs_of(rt.alloc(), changes, layer)?;
-    let what = changes.what;
-    let first = found.first;
-    let second = found.second;
-    println!(rt; "pairs of cuts, {on}, around {what}: after {first} first cuts {second}")?;
+fn tell_pairs(rt: &HostRuntime, changes: &Changes, layer: Layer) -> anyhow::Result<()> {
+    let Found { first, second } = pairs_of(rt.alloc(), changes, layer)?;
+    println!(rt;
+        "pairs of cuts, {layer}, around {}: after {first} first cuts {second}",
+        changes.what
+    )?;
     Ok(())
 }
 
@@ -106,7 +100,7 @@ fn longest_change(name: Name) -> Changes {
     }
 }
 
-fn tell_layer(rt: &HostRuntime, name: Name, layer: Layer, on: &str) -> anyhow::Result<()> {
+fn tell_layer(rt: &HostRuntime, name: Name, layer: Layer) -> anyhow::Result<()> {
     let again = short_changes(
         name,
         "three changes of halves, with the same entry again",
@@ -117,23 +111,16 @@ fn tell_layer(rt: &HostRuntime, name: Name, layer: Layer, on: &str) -> anyhow::R
         "three changes of halves, with another entry then",
         Entries::Other,
     );
-    tell_singles(rt, again.script, layer, on)?;
-    tell_pairs(rt, &again, layer, on)?;
-    tell_pairs(rt, &other, layer, on)
+    tell_singles(rt, again.script, layer)?;
+    tell_pairs(rt, &again, layer)?;
+    tell_pairs(rt, &other, layer)
 }
 
 fn run(rt: &HostRuntime) -> anyhow::Result<()> {
-    let Some(name) = Name::new(b"vacuum-1") else {
-        return Err(anyhow!("no name"));
-    };
-    tell_layer(rt, name, Layer::Nothing, "on the bench card")?;
-    tell_pairs(
-        rt,
-        &longest_change(name),
-        Layer::Nothing,
-        "on the bench card",
-    )?;
-    tell_layer(rt, name, Layer::WriteBehind, "under write-behind")
+    let name = Name::new(b"vacuum-1").context("no name")?;
+    tell_layer(rt, name, Layer::Nothing)?;
+    tell_pairs(rt, &longest_change(name), Layer::Nothing)?;
+    tell_layer(rt, name, Layer::WriteBehind)
 }
 
 fn main(rt: HostRuntime) -> anyhow::Result<()> {

@@ -3,12 +3,10 @@ use catalogue::Catalogue;
 use naming::{Hash, Name};
 use records::{Entry, PathRecord, References};
 use std::alloc::{AllocError, Global};
-
-// The blocks of the card.
-pub(crate) const BLOCKS: usize = 130;
+use tallies::BLOCKS;
 
 // What a run appends: entries that make a catalogue, and then switches from one generation to another, each of which changes it.
-#[derive(Clone, Copy)]
+#[derive(Clone, Copy, PartialEq, Eq, Debug)]
 pub(crate) enum Script {
     // One path and two generations of it: four entries in a listing.
     Small(PathRecord),
@@ -16,7 +14,8 @@ pub(crate) enum Script {
     Full(PathRecord),
 }
 
-// The hash of this number; hash order is the order of the numbers.
+// The hash of this number; hash order is the order of the numbers. (Each program that makes hashes has these two lines, for numbers as wide as it needs: a
+// crate for them would be no plainer.)
 fn hash_of(number: u32) -> Hash {
     let mut bytes = [0; 20];
     bytes[0] = (number % 256) as u8;
@@ -34,11 +33,11 @@ pub(crate) fn empty_path(name: Name) -> PathRecord {
     }
 }
 
-// References to the eight paths before this one, or to fewer.
+// References to the eight paths before this one, or to fewer; so none is refused.
 fn eight_before(number: u32) -> References {
     let mut refs = References::new();
     for before in number.saturating_sub(8)..number {
-        refs.push(hash_of(before));
+        let _ = refs.push(hash_of(before));
     }
     refs
 }

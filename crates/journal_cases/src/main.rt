@@ -2,77 +2,66 @@
 // has to be the catalogue before the entry that was cut, or the one after it.
 #![tactic(auto)]
 
-mod tally;
 mod trying;
 
-use anyhow::anyhow;
+use anyhow::Context;
 use bench_card::BenchCard;
 use naming::{Hash, Name};
 use records::{PathRecord, References};
 use std::alloc::Global;
-use tally::Tally;
-use trying::{BLOCKS, Ending, try_entries};
+use tallies::{BLOCKS, Cut, Ending, KEPT, OPERATIONS, Tally, all_cuts};
+use trying::try_entries;
 use write_behind::WriteBehind;
 
-// The numbers by which a restart picks what the card kept of its last writes.
-const KEPT: [u32; 4] = [0, 0xffff_ffff, 0xaaaa_aaaa, 0x0f0f_3c3c];
-
-// More operations than the run has.
-const LAST_CUT: u64 = 620;
-
-// One run on a bench card that goes dark at that operation.
-fn on_card(heap: Global, cut: u64, kept: u32, path: &PathRecord) -> anyhow::Result<Ending> {
-    let mut bytes = vec![in heap; 0; BLOCKS * 512]?;
-    let mut disk = BenchCard::new(bytes.as_mut_slice(), cut, kept);
-    try_entries(heap, &mut disk, path)
-}
-
-// The same under write-behind.
-fn behind(heap: Global, cut: u64, kept: u32, path: &PathRecord) -> anyhow::Result<Ending> {
-    let mut bytes = vec![in heap; 0; BLOCKS * 512]?;
-    let card = BenchCard::new(bytes.as_mut_slice(), cut, kept);
-    match WriteBehind::new(heap, card) {
-        Ok(layer) => {
-            let mut disk = layer;
-            try_entries(heap, &mut disk, path)
-        }
-        Err(_) => Err(anyhow!("no memory")),
-    }
-}
-
-// Every cut, with every restart number.
-fn all_cuts(heap: Global, path: &PathRecord, layered: bool) -> anyhow::Result<Tally> {
-    let mut tally = Tally::new();
-    for cut in 1..LAST_CUT {
-        for kept in KEPT {
-            let ending = if layered {
-                behind(heap, cut, kept, path)?
-            } else {
-                on_card(heap, cut, kept, path)?
-            };
-            tally.count(ending);
-        }
+// What the run ends in on the bytes of a new card, with every cut and every restart number.
+fn try_cuts<F: Fn(&mut [u8], Cut) -> anyhow::Result<Ending>>(
+    heap: Global,
+    run: F,
+) -> anyhow::Result<Tally>
+    requires { F.IsAlwaysCallable run }
+{
+    let mut tally = Tally::default();
+    for cut in all_cuts(heap, OPERATIONS, &KEPT)? {
+        let mut bytes = vec![in heap; 0; BLOCKS * 512]?;
+        tally.count(run(bytes.as_mut_slice(), cut)?);
     }
     Ok(tally)
 }
 
+// In words of its own: a tally is printed without the cuts in the format, which stand second here.
+fn tell(rt: &HostRuntime, on: &str, tally: Tally) -> anyhow::Result<()> {
+    let Tally {
+        uncut,
+        in_format,
+        before,
+        after,
+        neither,
+    } = tally;
+    println!(rt;
+        "{on}: {uncut} uncut, {in_format} cut in format, {before} found as before, {after} found as after, {neither} found otherwise"
+    )?;
+    Ok(())
+}
+
 fn run(rt: &HostRuntime) -> anyhow::Result<()> {
     let heap = rt.alloc();
-    let Some(name) = Name::new(b"vacuum-1") else {
-        return Err(anyhow!("no name"));
-    };
     let path = PathRecord {
         hash: Hash::new([7; 20]),
-        name,
+        name: Name::new(b"vacuum-1").context("no name")?,
         size: 0,
         first: 0,
         refs: References::new(),
     };
-    let plain = all_cuts(heap, &path, false)?;
-    println!(rt; "on the bench card: {plain}")?;
-    let layered = all_cuts(heap, &path, true)?;
-    println!(rt; "under write-behind: {layered}")?;
-    Ok(())
+    let plain = try_cuts(heap, |bytes, cut| {
+        let mut card = BenchCard::new(bytes, cut.at, cut.kept);
+        try_entries(heap, &mut card, &path)
+    })?;
+    tell(rt, "on the bench card", plain)?;
+    let layered = try_cuts(heap, |bytes, cut| {
+        let mut layer = WriteBehind::new(heap, BenchCard::new(bytes, cut.at, cut.kept))?;
+        try_entries(heap, &mut layer, &path)
+    })?;
+    tell(rt, "under write-behind", layered)
 }
 
 fn main(rt: HostRuntime) -> anyhow::Result<()> {

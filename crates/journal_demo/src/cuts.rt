@@ -1,7 +1,8 @@
 // Where the power fails on a card, and why what its journal is then found with is allowed.
 use crate::journalled::Summary;
 
-// In which operation of the card the power goes (in none if 0), which blocks a restart keeps as they were written last, and how this is told.
+// In which operation of the card the power goes (in none if 0, as the card counts), which blocks a restart keeps as they were written last, and how this is told:
+// the words make it a row of this program's tables.
 pub(crate) struct Cut {
     pub(crate) at: u64,
     pub(crate) kept: u32,
@@ -72,7 +73,8 @@ pub(crate) const IN_CHANGE: [Cut; 4] = [
     },
 ];
 
-// What came of a trial: whether the entry was recorded, what the catalogue was before it, and what was found after the restart.
+// What came of a trial: whether the entry was recorded, what the catalogue was before it, and what was found after the restart. The catalogue is found
+// in both cases, so the three are told beside each other, and not as a `Result`.
 #[derive(Clone, Copy)]
 pub(crate) struct Trial {
     pub(crate) recorded: bool,
@@ -80,25 +82,31 @@ pub(crate) struct Trial {
     pub(crate) found: Summary,
 }
 
+// Why a card may be found so: after an entry that was recorded, or where the catalogue before it was found at its place, or where it was not.
+pub(crate) struct Reasons {
+    recorded: &'static str,
+    before: &'static str,
+    after: &'static str,
+}
+
+pub(crate) const ENTRY_REASONS: Reasons = Reasons {
+    recorded: "the entry was settled, so no cut can undo it",
+    before: "the entry was not settled, so the catalogue before it stands",
+    after: "the entry was not settled, but its block had come to the card",
+};
+
+pub(crate) const CHANGE_REASONS: Reasons = Reasons {
+    recorded: "the other half is in use, and the entry was settled in it",
+    before: "the label still names the full half, which has the same catalogue",
+    after: "the label names the other half, which has the same catalogue",
+};
+
 impl Trial {
-    // Whether the catalogue before the entry was found at its place.
-    fn is_before(&self) -> bool {
-        self.found == self.before
-    }
-}
-
-pub(crate) fn entry_reason(trial: &Trial) -> &'static str {
-    match (trial.recorded, trial.is_before()) {
-        (true, _) => "the entry was settled, so no cut can undo it",
-        (false, true) => "the entry was not settled, so the catalogue before it stands",
-        (false, false) => "the entry was not settled, but its block had come to the card",
-    }
-}
-
-pub(crate) fn change_reason(trial: &Trial) -> &'static str {
-    match (trial.recorded, trial.is_before()) {
-        (true, _) => "the other half is in use, and the entry was settled in it",
-        (false, true) => "the label still names the full half, which has the same catalogue",
-        (false, false) => "the label names the other half, which has the same catalogue",
+    pub(crate) fn reason(&self, reasons: &Reasons) -> &'static str {
+        match (self.recorded, self.found == self.before) {
+            (true, _) => reasons.recorded,
+            (false, true) => reasons.before,
+            (false, false) => reasons.after,
+        }
     }
 }

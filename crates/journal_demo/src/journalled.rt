@@ -1,9 +1,9 @@
 // A catalogue with the place of its journal on a card, and what is told of it.
-use crate::paths::BLOCKS;
-use anyhow::anyhow;
+use anyhow::Context;
 use catalogue::Catalogue;
 use disk::Disk;
 use journal::{EntryError, Place, append_and_apply, format_and_clear};
+use programs::{BLOCKS, PROFILE};
 use records::Entry;
 use recovery::recover;
 use std::alloc::Global;
@@ -17,7 +17,7 @@ pub(crate) struct Journalled {
 
 // How many paths there are, how many generations the first profile has, which of them is current (0 where there is none), and the number of the journal's
 // next entry.
-#[derive(Clone, Copy, PartialEq, Eq)]
+#[derive(Clone, Copy, PartialEq, Eq, Debug)]
 pub(crate) struct Summary {
     paths: usize,
     generations: usize,
@@ -29,19 +29,15 @@ impl Journalled {
     // Makes the disk's card new.
     pub(crate) fn formatted<D: Disk>(heap: Global, disk: &mut D) -> anyhow::Result<Journalled> {
         let mut catalogue = Catalogue::new(heap, BLOCKS)?;
-        match format_and_clear(disk, &mut catalogue) {
-            Ok(place) => Ok(Journalled { catalogue, place }),
-            Err(_) => Err(anyhow!("the card is not formatted")),
-        }
+        let place = format_and_clear(disk, &mut catalogue).context("the card is not formatted")?;
+        Ok(Journalled { catalogue, place })
     }
 
     // Restarts the disk and loads its card.
     pub(crate) fn recovered<D: Disk>(heap: Global, disk: &mut D) -> anyhow::Result<Journalled> {
         let mut catalogue = Catalogue::new(heap, BLOCKS)?;
-        match recover(disk, &mut catalogue) {
-            Ok(place) => Ok(Journalled { catalogue, place }),
-            Err(_) => Err(anyhow!("the card is damaged")),
-        }
+        let place = recover(disk, &mut catalogue).context("the card is damaged")?;
+        Ok(Journalled { catalogue, place })
     }
 
     // Appends the entry to the journal and applies it to the catalogue.
@@ -54,12 +50,9 @@ impl Journalled {
     }
 
     pub(crate) fn summary(&self) -> Summary {
-        let mut generations = 0;
-        let mut current = 0;
-        if let Some(profile) = self.catalogue.profiles().first() {
-            generations = profile.generations().len();
-            current = profile.current();
-        }
+        let (generations, current) = self.catalogue.profile(PROFILE).map_or((0, 0), |profile| {
+            (profile.generations().len(), profile.current())
+        });
         Summary {
             paths: self.catalogue.paths().len(),
             generations,

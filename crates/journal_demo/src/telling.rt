@@ -1,12 +1,12 @@
 // The table's programs on a card: formatted, journalled, and then the power fails in the middle of an entry and of a change of halves.
-use crate::cuts::{Cut, IN_CHANGE, IN_ENTRY, Trial, change_reason, entry_reason};
+use crate::cuts::{CHANGE_REASONS, Cut, ENTRY_REASONS, IN_CHANGE, IN_ENTRY, Reasons, Trial};
 use crate::journalled::{Journalled, Summary};
-use crate::paths::{BLOCKS, PART_SIZE, PROFILE, TASK_SIZE, commit_of, hashes_of, placed};
-use anyhow::anyhow;
+use crate::paths::commit_of;
+use anyhow::Context;
 use bench_card::BenchCard;
 use disk::Disk;
 use naming::Hash;
-use programs::Program;
+use programs::{BLOCKS, PART_SIZE, PROFILE, Program, TASK_SIZE};
 use records::Entry;
 use std::alloc::Global;
 use write_behind::WriteBehind;
@@ -16,13 +16,6 @@ const CARD_BYTES: usize = 512 * BLOCKS as usize;
 
 // The last entry for which a half has room.
 const LAST_IN_HALF: u64 = 64;
-
-fn record<D: Disk>(journalled: &mut Journalled, disk: &mut D, entry: &Entry) -> anyhow::Result<()> {
-    match journalled.record(disk, entry) {
-        Ok(_) => Ok(()),
-        Err(_) => Err(anyhow!("the entry is not recorded")),
-    }
-}
 
 // Registers a program by the next entry.
 fn record_program<D: Disk>(
@@ -38,10 +31,12 @@ fn record_program<D: Disk>(
     } else {
         TASK_SIZE
     };
-    let Some(path) = placed(&journalled.catalogue, program, size, needed) else {
-        return Err(anyhow!("no room on the card"));
-    };
-    record(journalled, disk, &Entry::Register(path))?;
+    let path = program
+        .placed(&journalled.catalogue, size, needed)
+        .context("no room on the card")?;
+    journalled
+        .record(disk, &Entry::Register(path))
+        .context("the entry is not recorded")?;
     println!(rt; "  entry {number} registers {program}")?;
     Ok(())
 }
@@ -54,14 +49,17 @@ fn record_all<D: Disk>(
     parts: &[Program],
     task: &Program,
 ) -> anyhow::Result<()> {
+    // Named: the checker does not cover a slice without a name that is lent in a loop.
     let none: [Hash; 0] = [];
     for part in parts {
         record_program(rt, journalled, disk, part, &none)?;
     }
-    let needed = hashes_of(rt.alloc(), parts)?;
+    let needed: Vec<Hash> = parts.iter().map(|part| part.hash).collect(rt.alloc())?;
     record_program(rt, journalled, disk, task, needed.as_slice())?;
     let number = journalled.summary().next;
-    record(journalled, disk, &commit_of(task, 1))?;
+    journalled
+        .record(disk, &commit_of(task, 1))
+        .context("the entry is not recorded")?;
     println!(rt; "  entry {number} commits it as generation 1")?;
     Ok(())
 }
@@ -77,10 +75,14 @@ fn switch_at(number: u64) -> Entry {
 // Records the second generation, and switches until the half is full.
 fn fill_half<D: Disk>(heap: Global, disk: &mut D, task: &Program) -> anyhow::Result<Summary> {
     let mut journalled = Journalled::recovered(heap, disk)?;
-    record(&mut journalled, disk, &commit_of(task, 2))?;
+    journalled
+        .record(disk, &commit_of(task, 2))
+        .context("the entry is not recorded")?;
     let next = journalled.summary().next;
-    for number in next..LAST_IN_HALF + 1 {
-        record(&mut journalled, disk, &switch_at(number))?;
+    for number in next..=LAST_IN_HALF {
+        journalled
+            .record(disk, &switch_at(number))
+            .context("the entry is not recorded")?;
     }
     Ok(journalled.summary())
 }
@@ -91,10 +93,7 @@ fn behind<'a>(
     cut: &Cut,
 ) -> anyhow::Result<WriteBehind<BenchCard<'a>>> {
     let card = BenchCard::new(bytes, cut.at, cut.kept);
-    match WriteBehind::new(heap, card) {
-        Ok(disk) => Ok(disk),
-        Err(_) => Err(anyhow!("no memory for write-behind")),
-    }
+    Ok(WriteBehind::new(heap, card)?)
 }
 
 // Records the entry on a copy of the card whose power goes at that cut, restarts the card and loads it.
@@ -112,9 +111,21 @@ fn tried(heap: Global, card: &[u8], cut: &Cut, entry: &Entry) -> anyhow::Result<
     })
 }
 
-fn tell_trial(rt: &HostRuntime, cut: &Cut, found: &Summary, why: &str) -> anyhow::Result<()> {
-    let when = cut.when;
-    println!(rt; "  power cut {when}, found {found}: {why}")?;
+// Tells what each cut in this entry leaves on a copy of the card, and why.
+fn tell_trials(
+    rt: &HostRuntime,
+    card: &[u8],
+    entry: &Entry,
+    cuts: &[Cut],
+    reasons: &Reasons,
+) -> anyhow::Result<()> {
+    for cut in cuts {
+        let trial = tried(rt.alloc(), card, cut, entry)?;
+        let when = cut.when;
+        let found = trial.found;
+        let why = trial.reason(reasons);
+        println!(rt; "  power cut {when}, found {found}: {why}")?;
+    }
     Ok(())
 }
 
@@ -122,12 +133,7 @@ fn tell_entry(rt: &HostRuntime, card: &[u8], task: &Program) -> anyhow::Result<(
     println!(rt;
         "Generation 2 is committed as the next entry, which comes to the card (operation 1) and is settled by a barrier (2):"
     )?;
-    let entry = commit_of(task, 2);
-    for cut in IN_ENTRY.iter() {
-        let trial = tried(rt.alloc(), card, cut, &entry)?;
-        tell_trial(rt, cut, &trial.found, entry_reason(&trial))?;
-    }
-    Ok(())
+    tell_trials(rt, card, &commit_of(task, 2), &IN_ENTRY, &ENTRY_REASONS)
 }
 
 fn tell_change(rt: &HostRuntime, card: &[u8]) -> anyhow::Result<()> {
@@ -135,11 +141,7 @@ fn tell_change(rt: &HostRuntime, card: &[u8]) -> anyhow::Result<()> {
         "The next entry changes halves: seven entries that make the catalogue go to the other half (operations 1 to 14), then the label (15 and 16), then the entry (17 and 18):"
     )?;
     let entry = switch_at(LAST_IN_HALF + 1);
-    for cut in IN_CHANGE.iter() {
-        let trial = tried(rt.alloc(), card, cut, &entry)?;
-        tell_trial(rt, cut, &trial.found, change_reason(&trial))?;
-    }
-    Ok(())
+    tell_trials(rt, card, &entry, &IN_CHANGE, &CHANGE_REASONS)
 }
 
 // Formats the card of these bytes, journals the programs on it, and loads it again.

@@ -1,6 +1,6 @@
 // What a power cut leaves of a block: trials on a bench card behind write-behind, each with the reason why what it found was allowed.
-use anyhow::anyhow;
 use bench_card::BenchCard;
+use tallies::Cut;
 use trials::{Outcome, trial};
 use write_behind::WriteBehind;
 
@@ -8,12 +8,6 @@ use write_behind::WriteBehind;
 const OLD: u8 = b'A';
 
 const NEW: u8 = b'B';
-
-// In which operation of the card the power goes (in none if 0), and which blocks a restart keeps as they were written last.
-struct Cut {
-    at: u64,
-    kept: u32,
-}
 
 const CUTS: [Cut; 3] = [
     Cut { at: 3, kept: 0 },
@@ -42,9 +36,7 @@ fn tell_moment(rt: &HostRuntime, cut: &Cut) -> anyhow::Result<()> {
 fn tell_cut(rt: &HostRuntime, cut: &Cut) -> anyhow::Result<()> {
     let mut bytes = [0; 1024];
     let card = BenchCard::new(&mut bytes, cut.at, cut.kept);
-    let Ok(mut disk) = WriteBehind::new(rt.alloc(), card) else {
-        return Err(anyhow!("no memory for write-behind"));
-    };
+    let mut disk = WriteBehind::new(rt.alloc(), card)?;
     match trial(&mut disk, OLD, NEW) {
         Ok(outcome) => {
             let found = char::from(outcome.found);
@@ -61,7 +53,7 @@ pub(crate) fn tell(rt: &HostRuntime) -> anyhow::Result<()> {
     println!(rt;
         "A block on a bench card: A is settled (operations 1 and 2), then B is written behind and a barrier brings it below (3 and 4):"
     )?;
-    for cut in CUTS.iter() {
+    for cut in &CUTS {
         tell_cut(rt, cut)?;
     }
     Ok(())

@@ -1,41 +1,13 @@
 // The table's programs in a catalogue: three parts and the task that refers to them, a generation, a closure and a free run.
-use anyhow::anyhow;
+use anyhow::Context;
 use catalogue::Catalogue;
 use naming::Hash;
-use programs::Program;
+use programs::{BLOCKS, PART_SIZE, PROFILE, Program, TASK_SIZE};
 use queries::{closure, free_run};
-use records::{Entry, PathRecord, References};
-
-// The card's blocks, and the bytes of a part and of the task.
-const BLOCKS: u32 = 256;
-
-const PART_SIZE: u32 = 600;
-
-const TASK_SIZE: u32 = 2000;
+use records::Entry;
 
 // The length of the run that is looked for at the end.
 const WANTED: u32 = 10;
-
-// The profile in which the task is committed.
-const PROFILE: u8 = 0;
-
-// The record of a program, its content in the last free run; none where there is no room or it has too many references.
-fn placed(
-    catalogue: &Catalogue,
-    program: &Program,
-    size: u32,
-    needed: &[Hash],
-) -> Option<PathRecord> {
-    let first = free_run(catalogue, &[], size.div_ceil(256))?;
-    let refs = References::from_slice(needed)?;
-    Some(PathRecord {
-        hash: program.hash,
-        name: program.name,
-        size,
-        first,
-        refs,
-    })
-}
 
 fn register(
     rt: &HostRuntime,
@@ -44,23 +16,15 @@ fn register(
     size: u32,
     needed: &[Hash],
 ) -> anyhow::Result<()> {
-    let Some(path) = placed(catalogue, program, size, needed) else {
-        return Err(anyhow!("no room on the card"));
-    };
-    if catalogue.apply(&Entry::Register(path)).is_err() {
-        return Err(anyhow!("the path does not fit the catalogue"));
-    }
+    let path = program
+        .placed(catalogue, size, needed)
+        .context("no room on the card")?;
+    catalogue
+        .apply(&Entry::Register(path))
+        .context("the path does not fit the catalogue")?;
     let first = path.first;
     println!(rt; "  {program}: {size} bytes from block {first}")?;
     Ok(())
-}
-
-fn hashes_of(rt: &HostRuntime, programs: &[Program]) -> anyhow::Result<Vec<Hash>> {
-    let mut hashes = Vec::with_capacity(rt.alloc(), programs.len())?;
-    for program in programs {
-        hashes.push(program.hash)?;
-    }
-    Ok(hashes)
 }
 
 // Registers the parts, and after them the task that refers to all of them.
@@ -73,11 +37,12 @@ fn register_all(
     println!(rt;
         "Registered on a card of {BLOCKS} blocks, the last with references to the others:"
     )?;
+    // Named: the checker does not cover a slice without a name that is lent in a loop.
     let none: [Hash; 0] = [];
     for part in parts {
         register(rt, catalogue, part, PART_SIZE, &none)?;
     }
-    let needed = hashes_of(rt, parts)?;
+    let needed: Vec<Hash> = parts.iter().map(|part| part.hash).collect(rt.alloc())?;
     register(rt, catalogue, task, TASK_SIZE, needed.as_slice())
 }
 
@@ -95,18 +60,15 @@ fn commit(rt: &HostRuntime, catalogue: &mut Catalogue, task: &Program) -> anyhow
 }
 
 fn tell_closure(rt: &HostRuntime, catalogue: &Catalogue, task: &Program) -> anyhow::Result<()> {
-    let Some(row) = catalogue.row_of(&task.hash) else {
-        return Err(anyhow!("the task is not registered"));
-    };
+    let row = catalogue
+        .row_of(&task.hash)
+        .context("the task is not registered")?;
     let members = closure(catalogue, row);
     let count = members.len();
     println!(rt; "Its closure has {count} paths:")?;
     for (row, path) in catalogue.paths().iter().enumerate() {
         if members.contains(row) {
-            let member = Program {
-                hash: path.hash,
-                name: path.name,
-            };
+            let member = Program::from(*path);
             println!(rt; "  {member}")?;
         }
     }

@@ -1,14 +1,5 @@
 // The table's list of programs: which lines are taken, and the programs in hash order.
-use programs::Program;
-
-// Hash part and name of each program.
-const LISTED: [(&str, &str); 5] = [
-    ("s66mzxpvicwk07gjbjfw9izjfa797vsw", "knife-offsets"),
-    ("0c5b4l9yxw2z1nmx3lb4wgkd3ld4k3zj", "cloth=linen_140"),
-    ("vvbb6sgmr0wxz1jqmvrp2hfx4ya9hq1z", "plotter.task"),
-    ("0c5a4l9yxw2z1nmx3lb4wgkd3ld4k3zj", "vacuum-sequence+2"),
-    ("i4j1l2pg9mbm7dqf9v12ixjj9yak7c1s", ".hidden"),
-];
+use programs::{LISTED, Program};
 
 // Takes the lines that are good, in the order of the list.
 pub(crate) fn take(rt: &HostRuntime) -> anyhow::Result<Vec<Program>> {

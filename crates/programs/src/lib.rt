@@ -11,6 +11,10 @@ ghost use Rattle.std.proofs.Common.{rules};
 ghost use Rattle.std.specs.Cmp.{partial_order_from_own_ties};
 ghost use Rattle.std.specs.Ordering.{as_partial_cmp, nat_cmp, on};
 
+mod list;
+mod placing;
+
+pub use list::{BLOCKS, LISTED, PART_SIZE, PROFILE, TASK_SIZE};
 use naming::{Hash, Name};
 use std::cmp::Ordering;
 use std::fmt;
@@ -33,6 +37,7 @@ impl Program {
     }
 }
 
+// By the hash alone, and by hand: a derive that skips the name would say nothing of the hash order, which the clauses promise.
 impl PartialEq for Program {
     ghost eq = { on (λ p. number_of p.hash.bytes) ◌==◌ };
 
@@ -76,17 +81,14 @@ impl Ord for Program {
         ensures cmp { result ≡ nat_cmp (number_of self.now.hash.bytes) (number_of other.now.hash.bytes) }
         ensures order { HashOrder self.now.hash other.now.hash result }
     {
-        self.hash.compare(&other.hash)
+        self.hash.cmp(&other.hash)
     }
 }
 
 impl fmt::Display for Program {
     fn fmt<W: fmt::Write>(&self, f: &mut fmt::Formatter<W>) -> fmt::Result {
-        for byte in self.hash.part() {
-            f.write_char(char::from(byte))?;
-        }
-        f.write_char('-')?;
-        for byte in self.name.as_bytes() {
+        let part = self.hash.part();
+        for byte in part.iter().chain(b"-").chain(self.name.as_bytes()) {
             f.write_char(char::from(*byte))?;
         }
         Ok(())
