@@ -1,10 +1,10 @@
 -- Entries of the other kinds as they are written, and the trailer that follows what an entry says.
 use Rattle.std.proofs.Common.{◌≡◌, ℕ, ◌+◌, ◌*◌, ◌≤◌, List, [], ◌∷◌, length, take, ap, ◌∙◌, arith}
-use Rattle.std.proofs.lemmas.List.{length-map, length-take-le}
+use Rattle.std.proofs.lemmas.List.{length-map}
 use Rattle.model.specs.Plain as plain
 use Rattle.model.specs.Plain.{register, commit, switch, forget, remove}
 use Rattle.records.specs.View.{bytes_of, entry_of, listed}
-use Rattle.records.specs.declared.references.References.{References}
+use Rattle.records.proofs.Places.{listed_length}
 use Rattle.records.specs.declared.records.Entry.{Entry}
 use Rattle.records.specs.declared.records.Entry.TheVariants.{Register, Commit, Switch, Forget, Remove}
 use Rattle.card.specs.Fields.{Field, Zero, committed_field, field, first_block_field, generation_field, get, hash_field, kind_field, name_field, name_length_field, profile_field, read, reference_count_field, reference_field, size_field}
@@ -38,9 +38,6 @@ Few (commit p k h) = Unit {0}
 Few (switch p k) = Unit {0}
 Few (forget p k) = Unit {0}
 Few (remove h) = Unit {0}
-
-pub listed_length : (r : References) → length (listed r) ≡ r.count
-listed_length r = length-take-le r.count r.hashes (omega (arith, r.whole, r.few))
 
 pub few_entry : (e : Entry) → Few (entry_of e)
 few_entry (Register p) = omega (arith, length-map (listed p.refs) bytes_of, listed_length p.refs, p.refs.few)
