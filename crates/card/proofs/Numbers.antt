@@ -7,10 +7,10 @@ use Rattle.naming.proofs.Digits.{digits_value}
 use Rattle.card.specs.Fields.{field, get, read}
 use Rattle.card.specs.Written.{Kept, Wrote, WroteNumber}
 
-four_bytes : (n : ℕ) → n < 2 ^ 32 → value 256 (n % 256 ∷ (n / 256 % 256 ∷ (n / 65536 % 256 ∷ (n / 16777216 % 256 ∷ [])))) ≡ n
+pub four_bytes : (n : ℕ) → n < 2 ^ 32 → value 256 (n % 256 ∷ (n / 256 % 256 ∷ (n / 65536 % 256 ∷ (n / 16777216 % 256 ∷ [])))) ≡ n
 four_bytes n low = rw div-one at (digits_value 256 n 4 (omega arith)) ∙ mod-eq_of_lt low
 
-eight_bytes : (n : ℕ) → n < 2 ^ 64
+pub eight_bytes : (n : ℕ) → n < 2 ^ 64
     → value 256 (n % 256 ∷ (n / 256 % 256 ∷ (n / 65536 % 256 ∷ (n / 16777216 % 256 ∷ (n / 4294967296 % 256 ∷ (n / 1099511627776 % 256 ∷ (n / 281474976710656 % 256 ∷ (n / 72057594037927936 % 256 ∷ []))))))))
     ≡ n
 eight_bytes n low = rw div-one at (digits_value 256 n 8 (omega arith)) ∙ mod-eq_of_lt low
@@ -29,7 +29,7 @@ none_left xs n long = ap (value 256) (drop_all n xs (omega arith))
 pub read_four : (xs : List ℕ) (n : ℕ) → length xs ≡ 4 → n ≡ get_or xs 0 0 + get_or xs 1 0 * 256 + get_or xs 2 0 * 65536 + get_or xs 3 0 * 16777216 → n ≡ value 256 xs
 read_four xs n long is = omega (arith, value_from xs 0, value_from xs 1, value_from xs 2, value_from xs 3, none_left xs 4 long)
 
-read_eight : (xs : List ℕ) (n : ℕ) → length xs ≡ 8
+pub read_eight : (xs : List ℕ) (n : ℕ) → length xs ≡ 8
     → n
     ≡ get_or xs 0 0 + get_or xs 1 0 * 256 + get_or xs 2 0 * 65536 + get_or xs 3 0 * 16777216 + get_or xs 4 0 * 4294967296 + get_or xs 5 0 * 1099511627776
     + get_or xs 6 0 * 281474976710656 + get_or xs 7 0 * 72057594037927936
@@ -59,7 +59,7 @@ pub got_eight : (at n : ℕ) (xs bytes : List ℕ) → at + 8 ≤ length xs → 
 got_eight at n xs bytes within got is = read_eight bytes n (ap length got ∙ wide at 8 xs within) is ∙ ap (value 256) got
 
 -- A number's bytes, written to a field.
-wrote_number : (at w n : ℕ) (before after bytes : List ℕ) → length bytes ≡ w → value 256 bytes ≡ n → Wrote (field at (length bytes)) bytes before after
+pub wrote_number : (at w n : ℕ) (before after bytes : List ℕ) → length bytes ≡ w → value 256 bytes ≡ n → Wrote (field at (length bytes)) bytes before after
     → WroteNumber (field at w) n before after
 wrote_number at w n before after bytes wide is wrote = record {
   here = ap (λ m. value 256 (get (field at m) after)) (sym wide) ∙ ap (value 256) wrote.here ∙ is;

@@ -2,6 +2,7 @@
 use Rattle.std.proofs.Common.{◌≡◌, ℕ, cond, eqb, List, [], map, length, take, Some, None, Option, sym, refl, ap, ◌∙◌, ap₂, MatchOption}
 use Rattle.std.proofs.lemmas.List.FromFn.{fill_by_all}
 use Rattle.std.specs.List.{range_with_len}
+use Rattle.model.specs.Fits.{Fits}
 use Rattle.model.specs.Plain as plain
 use Rattle.model.specs.Plain.{register, commit, switch, forget, remove}
 use Rattle.records.specs.View.{entry_of}
@@ -51,7 +52,14 @@ module _ (block : List ℕ) where
   pub says_once : (e f : plain.Entry) → Says block e → Says block f → e ≡ f
   says_once e f one other = sym (says_is e one) ∙ says_is f other
 
--- Every value of the type is readable.
+-- An entry that fits a catalogue, and every value of the type, is readable.
+pub fits_readable : (e : plain.Entry) (n : ℕ) (cat : plain.Catalogue) → Fits n cat e → Readable e
+fits_readable (register p) n cat fits = record { lawful = fits.lawful; few = fits.few }
+fits_readable (commit p k h) n cat fits = tt
+fits_readable (switch p k) n cat fits = tt
+fits_readable (forget p k) n cat fits = tt
+fits_readable (remove h) n cat fits = tt
+
 pub entry_readable : (e : Entry) → Readable (entry_of e)
 entry_readable (Register p) = record { lawful = p.name.lawful; few = few_entry (Register p) }
 entry_readable (Commit p k h) = tt

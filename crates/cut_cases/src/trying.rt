@@ -1,5 +1,6 @@
 // A run of entries on a card, to its end or to the cut, and what is found then.
 use crate::runs::{Entries, Layer, Run, Start};
+use anyhow::anyhow;
 use bench_card::BenchCard;
 use catalogue::Catalogue;
 use disk::Disk;
@@ -65,7 +66,10 @@ impl Attempt {
         match self.run.layer {
             Layer::Nothing => Ok(self.ending_of(&mut card)?),
             Layer::WriteBehind => {
-                let mut layer = WriteBehind::new(self.heap, card)?;
+                // By a pattern: of `ok` and `map_err`, which take the disk with what is lent to it, the checker makes no proof.
+                let Ok(mut layer) = WriteBehind::new(self.heap, card) else {
+                    return Err(anyhow!("no memory"));
+                };
                 Ok(self.ending_of(&mut layer)?)
             }
         }

@@ -2,7 +2,7 @@
 use crate::cuts::{CHANGE_REASONS, Cut, ENTRY_REASONS, IN_CHANGE, IN_ENTRY, Reasons, Trial};
 use crate::journalled::{Journalled, Summary};
 use crate::paths::commit_of;
-use anyhow::Context;
+use anyhow::{Context, anyhow};
 use bench_card::BenchCard;
 use disk::Disk;
 use naming::Hash;
@@ -93,7 +93,11 @@ fn behind<'a>(
     cut: &Cut,
 ) -> anyhow::Result<WriteBehind<BenchCard<'a>>> {
     let card = BenchCard::new(bytes, cut.at, cut.kept);
-    Ok(WriteBehind::new(heap, card)?)
+    // By a pattern: of `ok` and `map_err`, which take the disk with what is lent to it, the checker makes no proof.
+    match WriteBehind::new(heap, card) {
+        Ok(disk) => Ok(disk),
+        Err(_) => Err(anyhow!("no memory for write-behind")),
+    }
 }
 
 // Records the entry on a copy of the card whose power goes at that cut, restarts the card and loads it.

@@ -1,4 +1,5 @@
 // What a power cut leaves of a block: trials on a bench card behind write-behind, each with the reason why what it found was allowed.
+use anyhow::anyhow;
 use bench_card::BenchCard;
 use tallies::Cut;
 use trials::{Outcome, trial};
@@ -36,7 +37,10 @@ fn tell_moment(rt: &HostRuntime, cut: &Cut) -> anyhow::Result<()> {
 fn tell_cut(rt: &HostRuntime, cut: &Cut) -> anyhow::Result<()> {
     let mut bytes = [0; 1024];
     let card = BenchCard::new(&mut bytes, cut.at, cut.kept);
-    let mut disk = WriteBehind::new(rt.alloc(), card)?;
+    // By a pattern: of `ok` and `map_err`, which take the disk with what is lent to it, the checker makes no proof.
+    let Ok(mut disk) = WriteBehind::new(rt.alloc(), card) else {
+        return Err(anyhow!("no memory for write-behind"));
+    };
     match trial(&mut disk, OLD, NEW) {
         Ok(outcome) => {
             let found = char::from(outcome.found);

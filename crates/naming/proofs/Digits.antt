@@ -1,11 +1,11 @@
 -- Digits in any base: a digit of a number, the number of its digits, and a field of bits that spans digits.
-use Rattle.std.proofs.Common.{◌≡◌, ℕ, zero, suc, ◌+◌, ◌-◌, ◌*◌, ◌/◌, ◌%◌, ◌^◌, ◌<◌, ◌≤◌, List, [], ◌∷◌, map, length, get_or, drop, sym, refl, ap, ◌∙◌, subst, ap₂, inl, inr, zero-le, add-zero, mod-lt, mod-eq_of_lt, mul_assoc, mul_comm, div-lt_iff_lt-mul, add_comm, pow-suc, mul-zero, zero-add, mul-suc, mul-add, div-one, add-one, arith, pow-add, shr-shr}
+use Rattle.std.proofs.Common.{◌≡◌, ℕ, zero, suc, ◌+◌, ◌-◌, ◌*◌, ◌/◌, ◌%◌, ◌^◌, ◌<◌, ◌≤◌, List, [], ◌∷◌, map, length, get_or, drop, sym, refl, ap, ◌∙◌, subst, ap₂, inl, inr, zero-le, lt_of_lt_of_le, add-zero, mod-lt, mod-eq_of_lt, mul_assoc, mul_comm, div-lt_iff_lt-mul, add_comm, pow-suc, mul-zero, zero-add, mul-suc, mul-add, div-mul-le_self, div-one, add-one, arith, pow-add, shr-shr}
 use native.Mathlib.Nat.{add-mul-div_left, add-mul-mod_self_left, div-add-mod, div-div-eq-div-mul, div-eq_of_lt, mod-one, pow-le-pow_right, pow-succ', pow-zero, zero-div}
 use lib.Arith.{mod-mul}
 use lib.Bits.{bit_and}
 use Rattle.std.specs.List.{range_with_len}
 use Rattle.std.proofs.lemmas.Nat.{and_mask, field_of, one_shl, shl_whole}
-use Rattle.std.proofs.lemmas.List.{drop_all, drop-drop, get_or-drop, get_or_past}
+use Rattle.std.proofs.lemmas.List.{drop_all, drop-drop, ext_get_or, get_or-drop, get_or_past, length-drop}
 use Rattle.std.proofs.lemmas.Bool.{cases_lt}
 use Rattle.naming.specs.Digits.{value, EachBelow}
 
@@ -40,7 +40,7 @@ value_first : (b : ℕ) (ds : List ℕ) → value b ds ≡ get_or ds 0 0 + b * v
 value_first b [] = omega arith
 value_first b (d ∷ ds) = refl
 
-value_at : (b : ℕ) (ds : List ℕ) (i j : ℕ) → i + 1 ≡ j → value b (drop i ds) ≡ get_or ds i 0 + b * value b (drop j ds)
+pub value_at : (b : ℕ) (ds : List ℕ) (i j : ℕ) → i + 1 ≡ j → value b (drop i ds) ≡ get_or ds i 0 + b * value b (drop j ds)
 value_at b ds i j next =
     value_first b (drop i ds)
     ∙ ap₂ (λ x y. x + b * value b y) (get_or-drop i ds 0 0 ∙ ap (λ x. get_or ds x 0) (add-zero i)) (drop-drop 1 i ds ∙ ap (λ x. drop x ds) next)
@@ -72,6 +72,35 @@ digits_value_from b n a (suc m) pos =
 
 pub digits_value : (b n m : ℕ) → 0 < b → value b (map (λ k. n / b ^ k % b) (range_with_len 0 m)) ≡ n % b ^ m
 digits_value b n m pos = digits_value_from b n 0 m pos ∙ ap (λ x. x % b ^ m) (ap (λ x. n / x) (pow-zero b) ∙ div-one n)
+
+-- As many digits that write the same number are the same digits.
+pub same_digits : (b : ℕ) (xs ys : List ℕ) → length xs ≡ length ys → EachBelow b xs → EachBelow b ys → value b xs ≡ value b ys → xs ≡ ys
+same_digits b xs ys long lowx lowy same =
+    ext_get_or 0 xs ys long (λ k h. sym (digit_of b xs k lowx) ∙ ap (λ v. v / b ^ k % b) same ∙ digit_of b ys k lowy)
+
+-- The highest digit in which they differ decides which number is the smaller.
+pub digit_decides : (b : ℕ) (xs ys : List ℕ) (i : ℕ) → length xs ≡ length ys → EachBelow b xs → EachBelow b ys
+    → ((k : ℕ) → i < k → get_or xs k 0 ≡ get_or ys k 0) → get_or xs i 0 < get_or ys i 0 → value b xs < value b ys
+digit_decides b xs ys i long lowx lowy above less =
+    lt_of_lt_of_le ((div-lt_iff_lt-mul {k = b ^ i} {x = value b xs} {y = value b ys / b ^ i} pos).0 high) (div-mul-le_self (value b ys) (b ^ i))
+  where
+    pos : 0 < b ^ i
+    pos = pow_pos_of b i (omega (arith, lowx 0))
+
+    tops : drop (i + 1) xs ≡ drop (i + 1) ys
+    tops =
+        ext_get_or 0 (drop (i + 1) xs) (drop (i + 1) ys) (length-drop (i + 1) xs ∙ ap (λ n. n - (i + 1)) long ∙ sym (length-drop (i + 1) ys))
+        (λ k h. get_or-drop (i + 1) xs k 0 ∙ above (i + 1 + k) (omega arith) ∙ sym (get_or-drop (i + 1) ys k 0))
+
+    high : value b xs / b ^ i < value b ys / b ^ i
+    high =
+        omega (
+          arith,
+          less,
+          value_drop b xs i lowx ∙ value_at b xs i (i + 1) refl,
+          value_drop b ys i lowy ∙ value_at b ys i (i + 1) refl,
+          ap (λ ds. b * value b ds) tops,
+        )
 
 -- What stands above a field of bits does not matter to it.
 field_low : (m t s w : ℕ) → (m + 2 ^ (w + s) * t) / 2 ^ s % 2 ^ w ≡ m / 2 ^ s % 2 ^ w

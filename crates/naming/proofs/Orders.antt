@@ -58,7 +58,7 @@ rising low (x ∷ xs) up zero (suc j) less h = above x xs (and_parts (ltb low x)
 rising low (x ∷ xs) up (suc i) (suc j) less h = rising x xs (and_parts (ltb low x) (rises x xs) up).1 i j (omega arith) (omega arith)
 
 -- A number of two parts, the lower below p: the higher decides, then the lower.
-order_parts : (p x y r s : ℕ) → r < p → s < p → ordering_then (number_order x y) (number_order r s) ≡ number_order (x * p + r) (y * p + s)
+pub order_parts : (p x y r s : ℕ) → r < p → s < p → ordering_then (number_order x y) (number_order r s) ≡ number_order (x * p + r) (y * p + s)
 order_parts p x y r s lowr lows =
     let n = x * p + r in
     let m = y * p + s in
@@ -81,6 +81,15 @@ order_rising f b up x y lowx lowy =
     (λ less. order_less (f x) (f y) (up x y less lowy))
     (λ same. order_equal (f x) (f y) (ap f same))
     (λ more. order_greater (f x) (f y) (up y x more lowx))
+
+pub rising_apart : (f : ℕ → ℕ) (b : ℕ) → Rises f b → (x y : ℕ) → x < b → y < b → f x ≡ f y → x ≡ y
+rising_apart f b up x y lowx lowy same = elim (cases_order x y) [
+  | inl e ↦ e
+  | inr apart ↦ elim apart [
+    | inl l ↦ absurd (omega (arith, up x y l lowy))
+    | inr g ↦ absurd (omega (arith, up y x g lowx))
+  ]
+]
 
 -- The values of g at m - 1, m - 2 and so on down to 0.
 abbrev downward : (ℕ → ℕ) → ℕ → List ℕ

@@ -10,8 +10,8 @@ use Rattle.naming.specs.Laws.{same_bytes}
 use Rattle.naming.specs.Hash.{Orders, Spelled, alphabet, character, hash_part, number_of, number_order, text_order}
 use Rattle.naming.specs.Order.{HashOrder}
 use Rattle.naming.specs.declared.hash.Hash.{Hash}
-use Rattle.naming.proofs.Digits.{digit_of, digits_value, each_below, pow_mul, value_below}
-use Rattle.naming.proofs.Orders.{Rises, order_equal, order_reversed, order_written, ranked, ranked_is, rising}
+use Rattle.naming.proofs.Digits.{digit_decides, digit_of, digits_value, each_below, pow_mul, value_below}
+use Rattle.naming.proofs.Orders.{Rises, order_equal, order_parts, order_reversed, order_written, ranked, ranked_is, rising}
 use Rattle.naming.specs.Laws.{same_hash}
 
 character_rises : Rises character 32
@@ -62,9 +62,25 @@ hash_order g h o by = record {
     tells Equal level = (λ _. same_number g h level, λ _. refl)
     tells Greater more = (λ e. absurd (false≢true e), λ e. absurd (omega (arith, more, ap (λ x. number_of x.bytes) e)))
 
+-- The highest byte in which they differ decides, and where they differ in none they are level.
+pub smaller : (g h : Hash) (i : ℕ) → ((k : ℕ) → i < k → get_or g.bytes k 0 ≡ get_or h.bytes k 0) → get_or g.bytes i 0 < get_or h.bytes i 0
+    → number_of g.bytes < number_of h.bytes
+smaller g h i above less = digit_decides 256 g.bytes h.bytes i (g.whole ∙ sym h.whole) g.small h.small above less
+
+pub level : (g h : Hash) → ((k : ℕ) → get_or g.bytes k 0 ≡ get_or h.bytes k 0) → number_of g.bytes ≡ number_of h.bytes
+level g h each = ap number_of (ext_get_or 0 g.bytes h.bytes (g.whole ∙ sym h.whole) (λ k _. each k))
+
 -- The law: the bytes from the last to the first are ordered as the hashes.
 pub bytes_order : (g h : Hash) → slice_cmp nat_cmp (reverse g.bytes) (reverse h.bytes) ≡ number_order (number_of g.bytes) (number_of h.bytes)
 bytes_order g h = order_reversed 256 g.bytes h.bytes (g.whole ∙ sym h.whole) g.small h.small
+
+-- The law: in two parts, the higher first, the numbers are ordered as the hashes.
+pub parts_order : (g h : Hash) (x r y s : ℕ) (o : Ordering) → number_of g.bytes ≡ x * 2 ^ 128 + r → number_of h.bytes ≡ y * 2 ^ 128 + s → r < 2 ^ 128 → s < 2 ^ 128
+    → o ≡ ordering_then (nat_cmp x y) (nat_cmp r s) → HashOrder g h o
+parts_order g h x r y s o ours theirs lowr lows told =
+    let n = number_of g.bytes in
+    let m = number_of h.bytes in
+    hash_order g h o (subst (λ q. Orders q n m) (sym (told ∙ order_parts (2 ^ 128) x y r s lowr lows ∙ ap₂ number_order (sym ours) (sym theirs))) (ranked n m))
 
 pub spelled : (ds text : List ℕ) → length ds ≡ 32 → length text ≡ 32
     → ((k : ℕ) → k < 32 → (get_or ds k 0 < 32) × (character (get_or ds k 0) ≡ get_or text (31 - k) 0)) → Spelled ds text

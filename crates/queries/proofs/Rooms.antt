@@ -1,12 +1,12 @@
 -- A walk from the end of the card down, past every run that is in the way.
-use Rattle.std.proofs.Common.{◌≡◌, ℕ, ◌+◌, ◌-◌, ◌<◌, ◌≤◌, max, true, false, ◌&&◌, ltb, List, [], ◌∷◌, ◌++◌, map, length, get_or, Some, None, Option, MatchOption, refl, ap, ◌∙◌, subst, arith}
+use Rattle.std.proofs.Common.{◌≡◌, ℕ, ◌+◌, ◌-◌, ◌<◌, ◌≤◌, max, true, false, ◌&&◌, ltb, List, [], ◌∷◌, ◌++◌, map, length, get_or, is_some, Some, None, Option, MatchOption, sym, refl, ap, ◌∙◌, subst, arith}
 use native.Mathlib.Decide.{dec_le}
-use Rattle.std.proofs.lemmas.List.{get_or-map, length-map}
-use Rattle.std.proofs.lemmas.Bool.{and_parts, both_ways, ltb-true}
+use Rattle.std.proofs.lemmas.List.{get_or-append-add, get_or_append_left, get_or-map, length-append, length-map, map-append}
+use Rattle.std.proofs.lemmas.Bool.{and_parts, both_ways, false≢true, ltb-true, or_from}
 use Rattle.model.specs.Plain.{Span, run}
 use Rattle.model.specs.Fits.{Apart}
 use Rattle.model.specs.Free.{Free, LastFree, nowhere}
-use Rattle.model.proofs.Chains.{none_at}
+use Rattle.model.proofs.Chains.{any_append, none_at}
 use Rattle.records.specs.declared.records.PathRecord.{PathRecord}
 use Rattle.records.specs.declared.runs.Run.{Run}
 use Rattle.records.specs.Runs.{meets, span_of}
@@ -62,6 +62,29 @@ met_first runs s None none =
     any_map span_of (meets s) runs ∙ unmet_all (λ t. meets s (span_of t)) runs (length runs) (omega arith) (λ k d less. none k d (omega arith) less)
 met_first runs s (Some t) (shares, i, less, here, rest) =
     (i, (rw (length-map runs span_of) less, get_or-map span_of runs i t nowhere less ∙ ap span_of (here t), shares))
+
+-- What is met among some runs is met among these and others; where none of them is met, it is what is met among the others.
+met_over : (xs ys : List Run) (s : Span) (t : Run) → Met (map span_of xs) s (Some t) → Met (map span_of (xs ++ ys)) s (Some t)
+met_over xs ys s t (k, (less, here, shares)) =
+    subst (λ ts. Met ts s (Some t)) (sym (map-append span_of xs ys))
+    (k, (omega (arith, length-append (map span_of xs) (map span_of ys), less), get_or_append_left (map span_of xs) (map span_of ys) nowhere k less ∙ here, shares))
+
+met_past : (xs ys : List Run) (s : Span) (r : Option Run) → Met (map span_of xs) s None → Met (map span_of ys) s r → Met (map span_of (xs ++ ys)) s r
+met_past xs ys s None none rest =
+    subst (λ ts. Met ts s None) (sym (map-append span_of xs ys)) (any_append (meets s) (map span_of xs) (map span_of ys) ∙ or_from _ _ none rest)
+met_past xs ys s (Some t) none (k, (less, here, shares)) =
+    let longer = length-append (map span_of xs) (map span_of ys) in
+    subst (λ ts. Met ts s (Some t)) (sym (map-append span_of xs ys))
+    (length (map span_of xs) + k, (omega (arith, longer, less), get_or-append-add (map span_of xs) (map span_of ys) k nowhere ∙ here, shares))
+
+pub met_before : (xs ys : List Run) (s : Span) (r : Option Run) → is_some r ≡ true → Met (map span_of xs) s r → Met (map span_of (xs ++ ys)) s r
+met_before xs ys s None some met = absurd (false≢true some)
+met_before xs ys s (Some t) some met = met_over xs ys s t met
+
+pub met_after : (xs ys : List Run) (s : Span) (q r : Option Run) → is_some q ≡ false → Met (map span_of xs) s q → Met (map span_of ys) s r
+    → Met (map span_of (xs ++ ys)) s r
+met_after xs ys s None r none first rest = met_past xs ys s r first rest
+met_after xs ys s (Some t) r none first rest = absurd (false≢true (sym none))
 
 -- Every free run ends at this block or before.
 pub record Limit (n : ℕ) (taken : List Span) (count end : ℕ) : Type 0 where

@@ -12,11 +12,14 @@ use records::{DATA, PathRecord, Run};
 fn met(paths: &[PathRecord], building: &[Run], run: Run) -> Option<Run>
     ensures { Met (taken_by (map path_of paths.now) building.now) (span_of run) result }
 {
-    paths
+    let of_paths = paths
         .iter()
         .map(|path| path.run())
-        .chain(building.iter().copied())
-        .find(|taken| run.meets(taken))
+        .find(|taken| run.meets(taken));
+    if of_paths.is_some() {
+        return of_paths;
+    }
+    building.iter().copied().find(|taken| run.meets(taken))
 }
 
 // The first block of the last free run of `count` blocks, where those in `building` are taken too.

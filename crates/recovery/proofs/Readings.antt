@@ -108,10 +108,6 @@ module _ (m : Meaning) (p : Place) (l : Label) (c d : Catalogue) (first : p.firs
         at.1.2.blocks,
       )
 
--- A disk with as many blocks as a card has.
-pub card_sized : (m : Meaning) (o : Option ℕ) (size n : ℕ) → MatchOption o ((size < 130) ⊎ (65536 < size)) (λ k. (k ≡ size) × (130 ≤ k) × (k ≤ 65536)) → size ≡ m.blocks → o ≡ Some n → CardSized m × (n ≡ m.blocks)
-card_sized m o size n cases same is = let found = rw is at cases in ((omega (arith, found, same), omega (arith, found, same)), found.0 ∙ same)
-
 -- What a whole load says of a card whose label was read.
 pub half_loads : (m : Meaning) (c : Catalogue) (r : Result Place LoadError) (d : Catalogue) → CardSized m → m.lit ≡ true → HalfFound m r d → Loaded m c r d
 half_loads m c (Ok p) d sized lit found = (sized, lit, found)

@@ -1,8 +1,9 @@
 // The journal read back: what the entries on a card make.
 // Disk and catalogue stay two parameters: a struct that lends both would owe in each contract that it still lends the same ones.
-ghost use Rattle.std.specs.Prelude.{ℕ, is_ok};
+ghost use Rattle.std.specs.Prelude.{◌≡◌, ℕ, MatchOption, is_ok};
 ghost use Rattle.card.specs.Label.{InRange};
 ghost use Rattle.card.specs.View.{half_of};
+ghost use Rattle.journal.specs.Steps.{CardSized};
 ghost use Rattle.journal.specs.View.{SlotAt};
 ghost use Rattle.recovery.specs.Loaded.{EntriesRead, HalfRead, LabelRead, Loaded, PositionRead, Took};
 ghost use Rattle.recovery.specs.Recovers.{BackedLoads};
@@ -121,12 +122,19 @@ fn read_half<D: Disk>(
     Ok(place)
 }
 
+// How many blocks the card has, or none where the disk has a number of them that no card has.
+fn card_blocks<D: Disk>(disk: &D) -> Option<u32>
+    ensures { MatchOption result (CardSized (D.Disk.means disk.now) → ⊥) (λ n. CardSized (D.Disk.means disk.now) × (n ≡ (D.Disk.means disk.now).blocks)) }
+{
+    card_size(disk.size())
+}
+
 // Reads the label and the journal of a card into the catalogue, whatever was in it, and writes nothing.
 pub fn load<D: Disk>(disk: &D, catalogue: &mut Catalogue) -> Result<Place, LoadError>
     ensures card { Loaded (D.Disk.means disk.now) catalogue.old result catalogue.new }
     ensures backed { BackedLoads (D.Disk.means disk.now) result catalogue.new }
 {
-    let blocks = card_size(disk.size()).ok_or(LoadError::WrongSize)?;
+    let blocks = card_blocks(disk).ok_or(LoadError::WrongSize)?;
     let label = read_label(disk, blocks)?;
     catalogue.clear(blocks);
     read_half(disk, catalogue, &label)

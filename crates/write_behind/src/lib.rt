@@ -2,7 +2,7 @@
 #![tactic(auto)]
 
 ghost use Rattle.disk.specs.Meaning.{Barrier, Restarted, Write};
-ghost use Rattle.std.specs.Prelude.{◌≡◌, [], MatchResult};
+ghost use Rattle.std.specs.Prelude.{◌≡◌, ◌≤◌, [], length, MatchResult};
 ghost use Rattle.write_behind.specs.Behind.{Orderly, behind};
 ghost use Rattle.write_behind.specs.Order.{BehindBarrier, BehindWrite, Drain, Power, Send, passed_over};
 
@@ -55,6 +55,7 @@ fn power<D: Disk>(below: &D) -> Result<(), Fault>
 pub struct WriteBehind<D: Disk> {
     below: D,
     held: Queue,
+    ghost few: { length held ≤ 16 },
 }
 
 impl<D: Disk> WriteBehind<D> {
