@@ -3,7 +3,7 @@
 
 ghost use Rattle.disk.specs.Meaning.{Barrier, Restarted, Write};
 ghost use Rattle.std.specs.Prelude.{◌≡◌, ◌≤◌, [], length, MatchResult};
-ghost use Rattle.write_behind.specs.Behind.{Orderly, behind};
+ghost use Rattle.write_behind.specs.Behind.{Holds, Orderly, behind};
 ghost use Rattle.write_behind.specs.Order.{BehindBarrier, BehindWrite, Drain, Power, Send, passed_over};
 
 mod held;
@@ -47,6 +47,16 @@ fn power<D: Disk>(below: &D) -> Result<(), Fault>
     ensures { Power (D.Disk.means below.now) result }
 {
     pass_over(below.read(0, &mut [0; 256]))
+}
+
+// A block on its way.
+fn pending(b: u64, from: &[u8; 256]) -> Pending
+    ensures { Holds b from.now result }
+{
+    Pending {
+        at: b,
+        content: *from,
+    }
 }
 
 // A disk over another, with blocks that are held back: they come to the disk below at a barrier, or one by one where
@@ -112,10 +122,7 @@ impl<D: Disk> Disk for WriteBehind<D> {
         ensures orderly { Orderly (D.Disk.means self.old.below).blocks self.old.held → Orderly (D.Disk.means self.new.below).blocks self.new.held }
     {
         self.below.read(b, &mut [0; 256])?;
-        let newest = Pending {
-            at: b,
-            content: *from,
-        };
+        let newest = pending(b, from);
         if self.held.replace(newest) {
             return Ok(());
         }

@@ -9,22 +9,22 @@ pub returns-then-replace : goal.returns-then-replace
 returns-then-replace g c =
     let m = g.D.Disk.means c.args.self.now.below in
     let read = c.in_ok-read.ensures in
-    let told = c.if-replace.ensures in
+    let told = rw (c.pending-newest.ensures.0, c.pending-newest.ensures.1) at c.if-replace.ensures in
     record { meaning = written_replaced m _ _ _ c.args.from.now read.0 read.1 told; order = inl (refl, told); orderly = λ o. orderly_replaced _ _ c.args.from.now _ _ read.1 o told }
 
 pub returns-in-None : goal.returns-in-None
 returns-in-None g c =
     let m = g.D.Disk.means c.args.self.now.below in
     let read = c.in_ok-read.ensures in
-    let told = c.if-replace.ensures in
+    let told = rw c.pending-newest.ensures.0 at c.if-replace.ensures in
     let few = rw told.1 at c.in-None.ensures in
-    let added = added_newest _ _ _ (rw told.1 at c.hold.ensures) in
+    let added = rw (c.pending-newest.ensures.0, c.pending-newest.ensures.1) at (added_newest _ _ _ (rw told.1 at c.hold.ensures)) in
     record { meaning = written_added m _ _ _ c.args.from.now read.0 read.1 added; order = inr (inl (refl, told.0, few, added)); orderly = λ o. orderly_added _ _ c.args.from.now _ _ read.1 o told.0 few added }
 
 pub returns-in_err-send-in-Some : goal.returns-in_err-send-in-Some
 returns-in_err-send-in-Some g c =
     let read = c.in_ok-read.ensures in
-    let told = c.if-replace.ensures in
+    let told = rw c.pending-newest.ensures.0 at c.if-replace.ensures in
     let full = rw told.1 at c.in-Some.ensures in
     let p = err_from_is_err_and c.from_residual-in_err-send-in-Some.result c.from_residual-in_err-send-in-Some.ensures.1 in
     let undone = send_undone g.D.Disk.means _ c.send.new.below _ _ c.in-Some.oldest _ c.args.from.now read.0 read.1 full.0 told.0 full.1 told.1 _ _ _ p.1 p.2 c.in_err-send-in-Some.ensures in
@@ -34,10 +34,10 @@ pub returns-in_ok-send-in-Some : goal.returns-in_ok-send-in-Some
 returns-in_ok-send-in-Some g c =
     let m = g.D.Disk.means c.args.self.now.below in
     let read = c.in_ok-read.ensures in
-    let told = c.if-replace.ensures in
+    let told = rw c.pending-newest.ensures.0 at c.if-replace.ensures in
     let full = rw told.1 at c.in-Some.ensures in
     let sent = c.in_ok-send-in-Some.ensures in
-    let added = added_newest _ _ _ (rw told.1 at c.shift.ensures) in
+    let added = rw (c.pending-newest.ensures.0, c.pending-newest.ensures.1) at (added_newest _ _ _ (rw told.1 at c.shift.ensures)) in
     let written = written_shifted m _ _ _ _ _ c.args.from.now read.0 read.1 full.0 _ sent added in
     record {
       meaning = written;
